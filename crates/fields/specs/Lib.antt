@@ -1,0 +1,2 @@
+-- The definitions of the plan's bits and fields.
+pub mod Bits

@@ -1,0 +1,12 @@
+-- `no_arcs` is the table of the empty list. Assumes nothing.
+use mathlib.Core.Path.{refl}
+use Rattle.sections.specs.Tables.{padded}
+use Rattle.sections.proofs.no_arcs.Statement.{statement}
+use Rattle.sections.proofs.no_arcs.Tie as tie
+
+returns : tie.Need-returns
+unfolding padded
+returns c = refl
+
+pub no-arcs-spec : {M : Type 1} → statement M
+no-arcs-spec = tie.close (tie.spec returns)

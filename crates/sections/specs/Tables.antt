@@ -1,0 +1,53 @@
+-- How the code keeps a plan: an array for each field of a section, and the number of its records.
+use Prim.Native.Nat.{ℕ, _-_}
+use mathlib.Core.List.{List, _++_, map}
+use lib.ListN.{length, replicate}
+use Rattle.sections.specs.declared.Jobs.{Jobs}
+use Rattle.sections.specs.declared.Arcs.{Arcs}
+use Rattle.sections.specs.declared.Channels.{Channels}
+use Rattle.sections.specs.declared.Decoded.{Decoded}
+use Rattle.sections.specs.Plan.{Job, Arc, Plan}
+
+-- an array of n places that begins with xs, with 0 in the places behind
+unfoldable pub padded : ℕ → List ℕ → List ℕ
+padded n xs = xs ++ replicate (n - length xs) 0
+
+abbrev pub sizes : List Job → List ℕ
+sizes l = map (λ (j : Job). j .size) l
+
+abbrev pub entries : List Job → List ℕ
+entries l = map (λ (j : Job). j .entry) l
+
+abbrev pub exits : List Job → List ℕ
+exits l = map (λ (j : Job). j .exit) l
+
+abbrev pub jobTable : List Job → Jobs
+jobTable l = record { size = padded 16 (sizes l); entry = padded 16 (entries l); exit = padded 16 (exits l); count = length l }
+
+abbrev pub froms : List Arc → List ℕ
+froms l = map (λ (a : Arc). a .from) l
+
+abbrev pub tos : List Arc → List ℕ
+tos l = map (λ (a : Arc). a .to) l
+
+abbrev pub labels : List Arc → List ℕ
+labels l = map (λ (a : Arc). a .label) l
+
+abbrev pub arcTable : List Arc → Arcs
+arcTable l = record { from = padded 256 (froms l); to = padded 256 (tos l); label = padded 256 (labels l); count = length l }
+
+abbrev pub channelTable : List ℕ → Channels
+channelTable l = record { event = padded 64 l; count = length l }
+
+abbrev pub decodedOf : Plan → Decoded
+decodedOf p = record {
+  nodes = p .nodes;
+  kind = p .kind;
+  items = p .items;
+  alphabet = p .alphabet;
+  jobs = jobTable (p .jobs);
+  steps = arcTable (p .steps);
+  channels = channelTable (p .channels);
+  calls = arcTable (p .calls);
+  accepts = arcTable (p .accepts);
+}
