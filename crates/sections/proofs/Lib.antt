@@ -1,2 +1,3 @@
 -- Laws of rows and tables that belong to no one function.
 pub mod Rows
+pub mod Kept

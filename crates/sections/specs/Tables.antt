@@ -1,16 +1,22 @@
--- How the code keeps a plan: an array for each field of a section, and the number of its records.
+-- How the code keeps a plan: an array for each field of a section, and the number of its records. And back: the plan
+-- that tables keep.
 use Prim.Native.Nat.{ℕ, _-_}
 use mathlib.Core.List.{List, _++_, map}
-use lib.ListN.{length, replicate}
+use lib.ListN.{length, getD, replicate}
 use Rattle.sections.specs.declared.Jobs.{Jobs}
 use Rattle.sections.specs.declared.Arcs.{Arcs}
 use Rattle.sections.specs.declared.Channels.{Channels}
 use Rattle.sections.specs.declared.Decoded.{Decoded}
 use Rattle.sections.specs.Plan.{Job, Arc, Plan}
+use Rattle.sections.specs.Layout.{row}
 
 -- an array of n places that begins with xs, with 0 in the places behind
 unfoldable pub padded : ℕ → List ℕ → List ℕ
 padded n xs = xs ++ replicate (n - length xs) 0
+
+-- what stands at a place, and 0 past the end
+abbrev pub place : List ℕ → ℕ → ℕ
+place xs i = getD xs i 0
 
 abbrev pub sizes : List Job → List ℕ
 sizes l = map (λ (j : Job). j .size) l
@@ -39,6 +45,7 @@ arcTable l = record { from = padded 256 (froms l); to = padded 256 (tos l); labe
 abbrev pub channelTable : List ℕ → Channels
 channelTable l = record { event = padded 64 l; count = length l }
 
+-- the tables of a plan
 abbrev pub decodedOf : Plan → Decoded
 decodedOf p = record {
   nodes = p .nodes;
@@ -50,4 +57,34 @@ decodedOf p = record {
   channels = channelTable (p .channels);
   calls = arcTable (p .calls);
   accepts = arcTable (p .accepts);
+}
+
+-- the record i of a table
+abbrev pub jobIn : Jobs → ℕ → Job
+jobIn t i = record { size = place (t .size) i; entry = place (t .entry) i; exit = place (t .exit) i }
+
+abbrev pub arcIn : Arcs → ℕ → Arc
+arcIn t i = record { from = place (t .from) i; to = place (t .to) i; label = place (t .label) i }
+
+abbrev pub jobsIn : Jobs → List Job
+jobsIn t = row (t .count) (jobIn t)
+
+abbrev pub arcsIn : Arcs → List Arc
+arcsIn t = row (t .count) (arcIn t)
+
+abbrev pub channelsIn : Channels → List ℕ
+channelsIn t = row (t .count) (place (t .event))
+
+-- the plan that the tables keep
+abbrev pub planIn : Decoded → Plan
+planIn d = record {
+  nodes = d .nodes;
+  kind = d .kind;
+  items = d .items;
+  alphabet = d .alphabet;
+  jobs = jobsIn (d .jobs);
+  steps = arcsIn (d .steps);
+  channels = channelsIn (d .channels);
+  calls = arcsIn (d .calls);
+  accepts = arcsIn (d .accepts);
 }

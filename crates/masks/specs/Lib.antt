@@ -1,0 +1,2 @@
+-- What a set of states is, as a number.
+pub mod Mask

@@ -1,0 +1,6 @@
+-- Laws that belong to no one function.
+pub mod Tests
+pub mod Nodes
+pub mod Framing
+pub mod Ranges
+pub mod Ends

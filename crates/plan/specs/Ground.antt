@@ -1,0 +1,40 @@
+-- What the reader's tests of entries, exits and arcs go by: arrays that stand for the job of a node and the exit of a job.
+use mathlib.Core.Path.{_≡_}
+use Prim.Native.Nat.{ℕ, _<_, _≤_}
+use mathlib.Core.Bool.{Bool}
+use mathlib.Core.List.{List}
+use lib.ListN.{length}
+use Rattle.sections.specs.Plan.{Arc, Plan}
+use Rattle.sections.specs.declared.Decoded.{Decoded}
+use Rattle.sections.specs.Tables.{padded, place, exits, decodedOf, planIn}
+use Rattle.plan.specs.declared.Ground.{Ground}
+use Rattle.plan.specs.declared.Fault.{Fault}
+use Rattle.plan.specs.declared.Fault.the-variants.{Apart, Leaving, Unknown}
+use Rattle.plan.specs.Nodes.{owners}
+use Rattle.plan.specs.Refusals.{apart, leaving, unknown}
+
+abbrev pub groundOf : Plan → Ground
+groundOf p = record {
+  nodes = p .nodes;
+  owner = padded 256 (owners (p .jobs));
+  exit = padded 16 (exits (p .jobs));
+  channels = length (p .channels);
+}
+
+-- each node's job is one of n
+abbrev pub OwnersBelow : ℕ → List ℕ → Type 0
+OwnersBelow n owner = (i : ℕ) → place owner i < n
+
+-- the test of an arc, by the fault
+abbrev pub faulty : Fault → Ground → Arc → Bool
+faulty Apart g = apart (g .nodes) (place (g .owner))
+faulty Leaving g = leaving (place (g .owner)) (place (g .exit))
+faulty Unknown g = unknown (g .channels)
+
+-- the tables are those of the plan that they keep, and hold no more than they have places for
+pub record Tabled (d : Decoded) : Type 0 where
+  pub kept : d ≡ decodedOf (planIn d)
+  pub jobs : d .jobs .count ≤ 16
+  pub steps : d .steps .count ≤ 256
+  pub calls : d .calls .count ≤ 256
+  pub accepts : d .accepts .count ≤ 256

@@ -1,0 +1,6 @@
+-- When a plan is turned down before its pattern, and what its reader answers.
+pub mod Checks
+pub mod Nodes
+pub mod Refusals
+pub mod Ground
+pub mod Reading

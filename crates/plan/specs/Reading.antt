@@ -1,0 +1,45 @@
+-- What the reader of a plan answers.
+use Prim.Native.Nat.{ℕ}
+use mathlib.Core.Option.{Option, none, some}
+use mathlib.Core.List.{List, []}
+use lib.ListN.{length}
+use Rattle.sections.specs.Plan.{Plan, nothing}
+use Rattle.sections.specs.Layout.{headOf, patternAt, planOf}
+use Rattle.sections.specs.Tables.{padded, decodedOf}
+use Rattle.plan.specs.declared.Outcome.{Outcome}
+use Rattle.plan.specs.declared.Outcome.the-variants.{Accepted, Refused}
+use Rattle.plan.specs.declared.Owners.{Owners}
+use Rattle.plan.specs.declared.Reading.{Reading}
+use Rattle.plan.specs.Checks.{first}
+use Rattle.plan.specs.Nodes.{owners}
+use Rattle.plan.specs.Refusals.{order}
+
+-- 01's number for each case: a refusal has its own, acceptance none
+abbrev pub outcomeOf : Option ℕ → Outcome
+outcomeOf none = Accepted
+outcomeOf (some n) = Refused n
+
+-- how the code keeps the jobs of the nodes
+abbrev pub ownerTable : List ℕ → Owners
+ownerTable l = record { job = padded 256 l; nodes = length l }
+
+-- an accepted plan, with the job of each node and the byte where its pattern starts
+abbrev pub accepted : List ℕ → Reading
+accepted b = record {
+  outcome = Accepted;
+  plan = decodedOf (planOf b);
+  owner = padded 256 (owners (planOf b .jobs));
+  pattern = patternAt (headOf b);
+}
+
+-- "A refusal returns its number and nothing else."
+abbrev pub refused : ℕ → Reading
+refused n = record { outcome = Refused n; plan = decodedOf nothing; owner = padded 256 []; pattern = 0 }
+
+abbrev pub answered : Option ℕ → List ℕ → Reading
+answered none b = accepted b
+answered (some n) b = refused n
+
+-- the reader's answer to the bytes of a plan
+unfoldable pub readingOf : List ℕ → Reading
+readingOf b = answered (first order b) b

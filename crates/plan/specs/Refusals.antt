@@ -1,0 +1,84 @@
+-- Document 01, "When a plan is turned down": the refusals 1 to 9, a test each, and their order.
+use Prim.Native.Nat.{ℕ, _+_, _-_, _*_}
+use mathlib.Core.Bool.{Bool, _&&_, _||_, not}
+use mathlib.Core.List.{List, [], _∷_, _++_, map}
+use lib.Dec.{ltb, leb, eqb}
+use lib.ListN.{length}
+use Rattle.fields.specs.Bits.{fieldAt}
+use Rattle.sections.specs.declared.Head.{Head}
+use Rattle.sections.specs.Plan.{Job, Arc, Plan}
+use Rattle.sections.specs.Layout.{headOf, endAt, patternAt, planOf}
+use Rattle.sections.specs.Tables.{sizes}
+use Rattle.plan.specs.Checks.{Check, refuse, any, anyNumbered}
+use Rattle.plan.specs.Nodes.{jobOf, exitOf, isNode, total}
+
+-- 1. "The plan has fewer than 11 bytes."
+abbrev pub tooShort : List ℕ → Bool
+tooShort b = ltb (length b) 11
+
+-- 2. "A count of the head is outside its range."
+abbrev pub outside : ℕ → ℕ → ℕ → Bool
+outside low high n = ltb n low || ltb high n
+
+unfoldable pub countsOutside : Head → Bool
+countsOutside h =
+    outside 1 16 (h .jobs)
+    || (outside 1 256 (h .nodes)
+    || (outside 0 256 (h .steps)
+    || (outside 0 128 (h .calls) || (outside 0 128 (h .accepts) || (outside 0 64 (h .channels) || outside 1 64 (h .items))))))
+
+-- 3. "The plan is shorter than its sections before the pattern."
+abbrev pub cutShort : List ℕ → Bool
+cutShort b = ltb (length b) (patternAt (headOf b))
+
+-- 4. "A filling bit before the pattern is one."
+abbrev pub filled : List ℕ → Bool
+filled b = not (eqb (fieldAt b (endAt (headOf b)) (8 * patternAt (headOf b) - endAt (headOf b))) 0)
+
+-- 5. "A job has size 0, or the sizes do not sum to the nodes."
+abbrev pub sizesWrong : ℕ → List Job → Bool
+sizesWrong nodes jobs = any (λ (b : Job). eqb (b .size) 0) jobs || not (eqb (total (sizes jobs)) nodes)
+
+-- 6. "An entry or exit is not a node of its job."
+abbrev pub stray : ℕ → (ℕ → ℕ) → ℕ → Job → Bool
+stray nodes job j b = not (isNode nodes job j (b .entry) && isNode nodes job j (b .exit))
+
+-- 7. "A step's two ends are not nodes of one and the same job."
+abbrev pub apart : ℕ → (ℕ → ℕ) → Arc → Bool
+apart nodes job a = not (ltb (a .from) nodes && (ltb (a .to) nodes && eqb (job (a .from)) (job (a .to))))
+
+-- 8. "A step leaves the exit of its job."
+abbrev pub leaving : (ℕ → ℕ) → (ℕ → ℕ) → Arc → Bool
+leaving job exit a = eqb (a .from) (exit (job (a .from)))
+
+-- 9. "A call or accept names a channel not below the number of channels."
+abbrev pub unknown : ℕ → Arc → Bool
+unknown channels a = leb channels (a .label)
+
+-- "7 to 9 each over all local steps, calls and accepts"
+abbrev pub links : Plan → List Arc
+links p = p .calls ++ p .accepts
+
+abbrev pub arcs : Plan → List Arc
+arcs p = p .steps ++ links p
+
+-- ---- the order
+
+-- the checks of the bytes
+abbrev pub framing : List (Check (List ℕ))
+framing = refuse 1 tooShort ∷ refuse 2 (λ (b : List ℕ). countsOutside (headOf b)) ∷ refuse 3 cutShort ∷ refuse 4 filled ∷ []
+
+-- the checks of what the plan says, once its sizes are right
+abbrev pub ends : List (Check Plan)
+ends =
+    refuse 6 (λ (p : Plan). anyNumbered (stray (p .nodes) (jobOf p)) (p .jobs))
+    ∷ refuse 7 (λ (p : Plan). any (apart (p .nodes) (jobOf p)) (arcs p))
+    ∷ refuse 8 (λ (p : Plan). any (leaving (jobOf p) (exitOf p)) (arcs p))
+    ∷ refuse 9 (λ (p : Plan). any (unknown (length (p .channels))) (links p)) ∷ []
+
+abbrev pub shape : List (Check Plan)
+shape = refuse 5 (λ (p : Plan). sizesWrong (p .nodes) (p .jobs)) ∷ ends
+
+-- "Checked in this order": all checks before the pattern
+abbrev pub order : List (Check (List ℕ))
+order = framing ++ map (λ (c : Check Plan) (b : List ℕ). c (planOf b)) shape
