@@ -1,13 +1,13 @@
 -- Laws of the bits of a list of bytes and of the fields that they write. Assumes nothing.
-use mathlib.Core.Path.{_≡_, refl, sym, ap, _∙_, subst}
+use mathlib.Core.Path.{_≡_, refl, sym, ap, _∙_}
 use mathlib.Core.List.{List, [], _∷_, _++_}
 use Prim.Native.Nat.{ℕ, zero, suc, _+_, _-_, _*_, _/_, _%_, _^_, _≤_, _<_}
 use native.Mathlib.Nat.{not-suc-le-zero, pow-suc}
 use native.Mathlib.Numerals.{add-one}
 use native.Mathlib.Omega.{arith}
-use lib.ListN.{length, getD, take, drop, length-take, length-drop}
+use lib.ListN.{length, getD, drop, length-take, length-drop}
 use lib.Seq.{take-suc, getD-drop}
-use Rattle.fields.specs.Bits.{bitsOf, bitsOfByte, bitsAt, valueFrom, fieldAt, eventsFrom, eventsAt}
+use Rattle.fields.specs.Bits.{bitsOf, bitsAt, valueFrom, fieldAt, eventsFrom, eventsAt}
 
 -- ---- bits
 

@@ -1,2 +1,3 @@
--- Laws of bits and fields that belong to no one function.
+-- Laws of bits, fields and sets of events that belong to no one function.
 pub mod Laws
+pub mod EventSets

@@ -1,30 +1,30 @@
 -- The answer of the checks of what a plan says, by which of their tests hold; and what tables tell of the plan that they
 -- keep. Assumes nothing.
-use mathlib.Core.Path.{_≡_, refl, sym, ap, ap₂, _∙_, subst}
-use mathlib.Core.Bool.{Bool, true, false, not}
+use mathlib.Core.Path.{_≡_, refl, sym, ap, _∙_, subst}
+use mathlib.Core.Bool.{Bool, true, false, _||_}
 use mathlib.Core.Option.{Option, none, some}
 use mathlib.Core.List.{List, map}
-use Prim.Native.Nat.{ℕ, zero, suc, _≤_, _<_}
+use Prim.Native.Nat.{ℕ, _≤_, _<_}
 use native.Mathlib.Omega.{arith}
 use borrow.Author.Tests.{eqb-true, not-false}
 use lib.Dec.{eqb}
 use lib.ListN.{length}
 use Rattle.sections.specs.declared.Head.{Head}
 use Rattle.sections.specs.declared.Decoded.{Decoded}
-use Rattle.sections.specs.Plan.{Job, Plan}
+use Rattle.sections.specs.Plan.{Job, Arc, Plan}
 use Rattle.sections.specs.Layout.{headOf, planOf, planUnder}
 use Rattle.sections.specs.Tables.{padded, place, sizes, exits, decodedOf, planIn}
 use Rattle.sections.proofs.Rows.{row-length}
 use Rattle.sections.proofs.Kept.{padded-places, plan-kept}
 use Rattle.plan.specs.declared.Outcome.the-variants.{Accepted, Refused}
 use Rattle.plan.specs.declared.Ground.{Ground}
-use Rattle.plan.specs.declared.Fault.the-variants.{Apart, Leaving, Unknown}
+use Rattle.plan.specs.declared.Faults.{Faults}
 use Rattle.plan.specs.Checks.{Check, orElse, first, any, anyNumbered}
 use Rattle.plan.specs.Nodes.{owners, jobOf, exitOf, total}
 use Rattle.plan.specs.Refusals.{sizesWrong, stray, apart, leaving, unknown, arcs, links, framing, ends, shape, order}
-use Rattle.plan.specs.Ground.{OwnersBelow, faulty, groundOf, Tabled}
+use Rattle.plan.specs.Ground.{OwnersBelow, faultsOf, groundOf, Tabled}
 use Rattle.plan.specs.Reading.{outcomeOf, answered, readingOf}
-use Rattle.plan.proofs.Tests.{or-none, first-append, first-said}
+use Rattle.plan.proofs.Tests.{or-none, first-append, first-said, any-both}
 use Rattle.plan.proofs.Nodes.{owners-below}
 use Rattle.plan.proofs.Ranges.{Framed}
 
@@ -76,6 +76,14 @@ order-refused b n e = order-parts b ∙ ap (λ (o : Option ℕ). orElse o (first
 pub order-past : (b : List ℕ) → first framing b ≡ none → first order b ≡ first shape (planOf b)
 order-past b e = order-parts b ∙ ap (λ (o : Option ℕ). orElse o (first shape (planOf b))) e
 
+or-else-none : (x y : Option ℕ) → orElse x y ≡ none → (x ≡ none) × (y ≡ none)
+or-else-none none y e = (refl, e)
+or-else-none (some n) y e = (e, cc)
+
+-- where no refusal applies
+pub order-none : (b : List ℕ) → first order b ≡ none → (first framing b ≡ none) × (first shape (planOf b) ≡ none)
+order-none b e = or-else-none (first framing b) (first shape (planOf b)) (sym (order-parts b) ∙ e)
+
 pub reading-is : (b : List ℕ) (o : Option ℕ) → first order b ≡ o → readingOf b ≡ answered o b
 unfolding readingOf
 reading-is b o e = ap (λ (x : Option ℕ). answered x b) e
@@ -90,34 +98,53 @@ pub outcome-accepted : (o : Option ℕ) → outcomeOf o ≡ Accepted → o ≡ n
 outcome-accepted none e = refl
 outcome-accepted (some m) e = cc
 
--- ---- the arrays that the tests go by
+-- ---- the tests by the arrays are the tests of the plan
 
-module _ (p : Plan) where
-  ground-owner : place (groundOf p .owner) ≡ jobOf p
-  ground-owner = padded-places 256 (owners (p .jobs))
+any-arcs : (p : Plan) (test : Arc → Bool) → (any test (p .steps) || (any test (p .calls) || any test (p .accepts))) ≡ any test (arcs p)
+any-arcs p test = sym (any-both test (p .steps) (links p) ∙ ap (λ (b : Bool). any test (p .steps) || b) (any-both test (p .calls) (p .accepts)))
 
-  -- the tests by the arrays are the tests of the plan
-  module _ (g : Ground) (e : g ≡ groundOf p) where
-    pub stray-on : anyNumbered (stray (g .nodes) (place (g .owner))) (p .jobs) ≡ anyNumbered (stray (p .nodes) (jobOf p)) (p .jobs)
-    stray-on =
-        ap (λ (x : Ground). anyNumbered (stray (x .nodes) (place (x .owner))) (p .jobs)) e
-        ∙ ap (λ (job : ℕ → ℕ). anyNumbered (stray (p .nodes) job) (p .jobs)) ground-owner
+module _ (p : Plan) (g : Ground) (e : g ≡ groundOf p) where
+  job-on : place (g .owner) ≡ jobOf p
+  job-on = ap (λ (x : Ground). place (x .owner)) e ∙ padded-places 256 (owners (p .jobs))
 
-    pub apart-on : any (faulty Apart g) (arcs p) ≡ any (apart (p .nodes) (jobOf p)) (arcs p)
-    apart-on = ap (λ (x : Ground). any (faulty Apart x) (arcs p)) e ∙ ap (λ (job : ℕ → ℕ). any (apart (p .nodes) job) (arcs p)) ground-owner
+  exit-on : place (g .exit) ≡ exitOf p
+  exit-on = ap (λ (x : Ground). place (x .exit)) e ∙ padded-places 16 (exits (p .jobs))
 
-    pub leaving-on : any (faulty Leaving g) (arcs p) ≡ any (leaving (jobOf p) (exitOf p)) (arcs p)
-    leaving-on =
-        ap (λ (x : Ground). any (faulty Leaving x) (arcs p)) e
-        ∙ ap₂ (λ (job exit : ℕ → ℕ). any (leaving job exit) (arcs p)) ground-owner (padded-places 16 (exits (p .jobs)))
-
-    pub unknown-on : any (faulty Unknown g) (links p) ≡ any (unknown (length (p .channels))) (links p)
-    unknown-on = ap (λ (x : Ground). any (faulty Unknown x) (links p)) e
+  pub stray-on : anyNumbered (stray (g .nodes) (place (g .owner))) (p .jobs) ≡ anyNumbered (stray (p .nodes) (jobOf p)) (p .jobs)
+  stray-on = λ i. anyNumbered (stray (e i .nodes) (job-on i)) (p .jobs)
 
   -- each node's job is one of the jobs
-  pub ground-below : (g : Ground) → g ≡ groundOf p → length (p .jobs) ≤ 16 → OwnersBelow 16 (g .owner)
-  ground-below g e h i =
-      subst (λ (f : ℕ → ℕ). f i < 16) (sym (ap (λ (x : Ground). place (x .owner)) e ∙ ground-owner)) (owners-below (p .jobs) 16 (omega arith) h i)
+  pub owners-on : length (p .jobs) ≤ 16 → OwnersBelow 16 (g .owner)
+  owners-on h i = subst (λ (f : ℕ → ℕ). f i < 16) (sym job-on) (owners-below (p .jobs) 16 (omega arith) h i)
+
+  -- of the faults of the three sections
+  module _ (s c a : Faults) (es : s ≡ faultsOf g (p .steps)) (ec : c ≡ faultsOf g (p .calls)) (ea : a ≡ faultsOf g (p .accepts)) where
+    pub apart-on : (s .apart || (c .apart || a .apart)) ≡ any (apart (p .nodes) (jobOf p)) (arcs p)
+    apart-on =
+        let parts : (s .apart || (c .apart || a .apart)) ≡ (any (apart (g .nodes) (place (g .owner))) (p .steps) || (any (apart (g .nodes) (place (g .owner))) (p .calls) || any (apart (g .nodes) (place (g .owner))) (p .accepts))) =
+        λ i. es i .apart || (ec i .apart || ea i .apart) in
+        parts ∙ any-arcs p (apart (g .nodes) (place (g .owner))) ∙ (λ i. any (apart (e i .nodes) (job-on i)) (arcs p))
+
+    pub leaving-on : (s .leaving || (c .leaving || a .leaving)) ≡ any (leaving (jobOf p) (exitOf p)) (arcs p)
+    leaving-on =
+        let parts : (s .leaving || (c .leaving || a .leaving)) ≡ (any (leaving (place (g .owner)) (place (g .exit))) (p .steps) || (any (leaving (place (g .owner)) (place (g .exit))) (p .calls) || any (leaving (place (g .owner)) (place (g .exit))) (p .accepts))) =
+        λ i. es i .leaving || (ec i .leaving || ea i .leaving) in
+        parts ∙ any-arcs p (leaving (place (g .owner)) (place (g .exit))) ∙ (λ i. any (leaving (job-on i) (exit-on i)) (arcs p))
+
+    pub unknown-on : (c .unknown || a .unknown) ≡ any (unknown (length (p .channels))) (links p)
+    unknown-on =
+        let parts : (c .unknown || a .unknown) ≡ (any (unknown (g .channels)) (p .calls) || any (unknown (g .channels)) (p .accepts)) = λ i. ec i .unknown || ea i .unknown in
+        parts ∙ sym (any-both (unknown (g .channels)) (p .calls) (p .accepts)) ∙ (λ i. any (unknown (e i .channels)) (links p))
+
+-- the arrays, from the tables
+abbrev pub groundIn : Decoded → List ℕ → Ground
+groundIn d owner = record { nodes = d .nodes; owner = owner; exit = d .jobs .exit; channels = d .channels .count }
+
+pub grounded : (d : Decoded) (owner : List ℕ) → Tabled d → owner ≡ padded 256 (owners (planIn d .jobs)) → groundIn d owner ≡ groundOf (planIn d)
+grounded d owner t e =
+    let exit = ap (λ (x : Decoded). x .jobs .exit) (t .kept) in
+    let channels = ap (λ (x : Decoded). x .channels .count) (t .kept) in
+    λ i. record { nodes = d .nodes; owner = e i; exit = exit i; channels = channels i }
 
 -- ---- the tables that were read
 

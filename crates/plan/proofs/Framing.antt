@@ -1,5 +1,5 @@
 -- The answer of the checks of the bytes, by which of their tests hold. Assumes nothing.
-use mathlib.Core.Path.{_≡_, refl}
+use mathlib.Core.Path.{_≡_}
 use mathlib.Core.Bool.{true, false}
 use mathlib.Core.Option.{none, some}
 use mathlib.Core.List.{List}
@@ -7,11 +7,11 @@ use Prim.Native.Nat.{ℕ}
 use Rattle.sections.specs.Layout.{headOf}
 use Rattle.plan.specs.Checks.{first}
 use Rattle.plan.specs.Refusals.{tooShort, countsOutside, cutShort, filled, framing}
-use Rattle.plan.proofs.Tests.{first-hit, first-pass}
 
 module _ (b : List ℕ) where
   pub framing-1 : tooShort b ≡ true → first framing b ≡ some 1
-  framing-1 e = first-hit 1 tooShort _ b e
+  unfolding first
+  framing-1 e = rw e
 
   module _ (long : tooShort b ≡ false) where
     pub framing-2 : countsOutside (headOf b) ≡ true → first framing b ≡ some 2

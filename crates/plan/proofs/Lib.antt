@@ -1,6 +1,9 @@
--- Laws that belong to no one function.
+-- Laws and cases that belong to no one function.
 pub mod Tests
+pub mod Turns
 pub mod Nodes
 pub mod Framing
 pub mod Ranges
 pub mod Ends
+pub mod Legality
+pub mod Cases

@@ -1,14 +1,14 @@
 -- What passed tests tell: counts within their ranges, and bytes that hold the sections. Assumes nothing.
-use mathlib.Core.Path.{_≡_, refl, sym, ap, _∙_}
-use mathlib.Core.Bool.{Bool, true, false, _||_, not}
-use mathlib.Core.Option.{Option, none, some}
-use mathlib.Core.List.{List, [], _∷_}
-use Prim.Native.Nat.{ℕ, _+_, _*_, _/_, _≤_, _<_}
+use mathlib.Core.Path.{_≡_}
+use mathlib.Core.Bool.{false}
+use mathlib.Core.Option.{none}
+use mathlib.Core.List.{List}
+use Prim.Native.Nat.{ℕ, _≤_}
 use native.Mathlib.Omega.{arith}
 use borrow.Author.Tests.{ltb-false}
 use lib.ListN.{length}
 use Rattle.sections.specs.declared.Head.{Head}
-use Rattle.sections.specs.Layout.{headOf, endAt, patternAt, Readable}
+use Rattle.sections.specs.Layout.{headOf, patternAt, Readable}
 use Rattle.plan.specs.Checks.{first}
 use Rattle.plan.specs.Refusals.{outside, countsOutside, tooShort, cutShort, framing}
 use Rattle.plan.proofs.Tests.{or-none, first-none}

@@ -1,12 +1,9 @@
 -- Laws of checks in their order, and of tests over rows. Assumes nothing.
-use mathlib.Core.Path.{_≡_, refl, sym, ap, ap₂, _∙_}
-use mathlib.Core.Bool.{Bool, true, false, _&&_, _||_, not, cond, or-assoc, or-true, or-false}
+use mathlib.Core.Path.{_≡_, refl, sym, ap, _∙_}
+use mathlib.Core.Bool.{Bool, true, false, _||_, cond, or-assoc, or-false}
 use mathlib.Core.Option.{Option, none, some}
-use mathlib.Core.Logic.{⊎-elim}
 use mathlib.Core.List.{List, [], _∷_, _++_, map}
-use Prim.Native.Nat.{ℕ, zero, suc, _+_, _≤_, _<_}
-use native.Mathlib.Nat.{not-suc-le-zero, le-of-suc-le-suc, eq-or-lt-of-le}
-use native.Mathlib.Numerals.{add-one}
+use Prim.Native.Nat.{ℕ, suc, _+_}
 use native.Mathlib.Omega.{arith}
 use lib.ListN.{length}
 use Rattle.sections.specs.Layout.{row}
@@ -23,36 +20,10 @@ or-none false b e = (refl, e)
 pub told : {r t b : Bool} → r ≡ t → r ≡ b → t ≡ b
 told e h = sym e ∙ h
 
-pub or-pass : (a b : Bool) → a ≡ false → (a || b) ≡ b
-or-pass a b e = rw e
-
-pub or-hit : (a b : Bool) → a ≡ true → (a || b) ≡ true
-or-hit a b e = rw e
-
--- not both
-pub fails-left : (a b : Bool) → a ≡ false → not (a && b) ≡ true
-fails-left a b e = rw e
-
-pub fails-right : (a b : Bool) → b ≡ false → not (a && b) ≡ true
-fails-right true b e = ap not e
-fails-right false b e = refl
-
-pub holds-both : (a b : Bool) → a ≡ true → b ≡ true → not (a && b) ≡ false
-holds-both a b e h = rw (e, h)
-
 -- ---- checks in their order
 
 module _ {A : Type 0} (n : ℕ) (test : A → Bool) (cs : List (Check A)) (a : A) where
-  -- the check applies, or is passed
-  pub first-hit : test a ≡ true → first (refuse n test ∷ cs) a ≡ some n
-  unfolding first
-  first-hit h = rw h
-
-  pub first-pass : test a ≡ false → first (refuse n test ∷ cs) a ≡ first cs a
-  unfolding first
-  first-pass h = rw h
-
-  -- where none applies
+  -- where none applies, this one does not, and none of the rest
   pub first-none : first (refuse n test ∷ cs) a ≡ none → (test a ≡ false) × (first cs a ≡ none)
   unfolding first
   first-none e = go (test a) refl e
@@ -60,10 +31,6 @@ module _ {A : Type 0} (n : ℕ) (test : A → Bool) (cs : List (Check A)) (a : A
       go : (b : Bool) → test a ≡ b → orElse (cond b (some n) none) (first cs a) ≡ none → (test a ≡ false) × (first cs a ≡ none)
       go true h e = (cc, cc)
       go false h e = (h, e)
-
-pub or-else-none : (x : Option ℕ) → orElse x none ≡ x
-or-else-none none = refl
-or-else-none (some n) = refl
 
 or-else-assoc : (x y z : Option ℕ) → orElse (orElse x y) z ≡ orElse x (orElse y z)
 or-else-assoc none y z = refl
@@ -99,20 +66,6 @@ module _ {A : Type 0} (test : ℕ → A → Bool) where
   any-row-more n g =
       let l : 0 + length (row n g) ≡ n = omega (arith, row-length g n) in
       rw (row-more, any-append 0 (row n g) (g n ∷ []), l) (ap (λ b. anyNumbered test (row n g) || b) (or-false (test n (g n))))
-
-  -- passed without a hit so far
-  pub any-row-miss : (n : ℕ) (g : ℕ → A) → anyNumbered test (row n g) ≡ false → test n (g n) ≡ false → anyNumbered test (row (n + 1) g) ≡ false
-  any-row-miss n g h e = any-row-more n g ∙ ap₂ (λ a b. a || b) h e
-
-  -- one hit is enough
-  pub any-row-hit : (i n : ℕ) (g : ℕ → A) → i < n → test i (g i) ≡ true → anyNumbered test (row n g) ≡ true
-  any-row-hit i zero g l e = absurd (not-suc-le-zero l)
-  any-row-hit i (suc n) g l e =
-      ap (λ (k : ℕ). anyNumbered test (row k g)) (sym (add-one n)) ∙ any-row-more n g
-      ∙ ⊎-elim
-      (λ (q : i ≡ n). let h : test n (g n) ≡ true = rw q at e in ap (λ b. anyNumbered test (row n g) || b) h ∙ or-true (anyNumbered test (row n g)))
-      (λ (q : i < n). ap (λ b. b || test n (g n)) (any-row-hit i n g q e))
-      (eq-or-lt-of-le (le-of-suc-le-suc l))
 
 -- a test that does not ask for the number
 any-shift : {A : Type 0} (test : A → Bool) (k : ℕ) (xs : List A) → anyFrom (λ i x. test x) k xs ≡ any test xs

@@ -1,15 +1,14 @@
 -- What the reader's tests of entries, exits and arcs go by: arrays that stand for the job of a node and the exit of a job.
 use mathlib.Core.Path.{_≡_}
 use Prim.Native.Nat.{ℕ, _<_, _≤_}
-use mathlib.Core.Bool.{Bool}
 use mathlib.Core.List.{List}
 use lib.ListN.{length}
 use Rattle.sections.specs.Plan.{Arc, Plan}
 use Rattle.sections.specs.declared.Decoded.{Decoded}
 use Rattle.sections.specs.Tables.{padded, place, exits, decodedOf, planIn}
 use Rattle.plan.specs.declared.Ground.{Ground}
-use Rattle.plan.specs.declared.Fault.{Fault}
-use Rattle.plan.specs.declared.Fault.the-variants.{Apart, Leaving, Unknown}
+use Rattle.plan.specs.declared.Faults.{Faults}
+use Rattle.plan.specs.Checks.{any}
 use Rattle.plan.specs.Nodes.{owners}
 use Rattle.plan.specs.Refusals.{apart, leaving, unknown}
 
@@ -25,11 +24,13 @@ groundOf p = record {
 abbrev pub OwnersBelow : ℕ → List ℕ → Type 0
 OwnersBelow n owner = (i : ℕ) → place owner i < n
 
--- the test of an arc, by the fault
-abbrev pub faulty : Fault → Ground → Arc → Bool
-faulty Apart g = apart (g .nodes) (place (g .owner))
-faulty Leaving g = leaving (place (g .owner)) (place (g .exit))
-faulty Unknown g = unknown (g .channels)
+-- which faults the arcs of a section have
+abbrev pub faultsOf : Ground → List Arc → Faults
+faultsOf g l = record {
+  apart = any (apart (g .nodes) (place (g .owner))) l;
+  leaving = any (leaving (place (g .owner)) (place (g .exit))) l;
+  unknown = any (unknown (g .channels)) l;
+}
 
 -- the tables are those of the plan that they keep, and hold no more than they have places for
 pub record Tabled (d : Decoded) : Type 0 where

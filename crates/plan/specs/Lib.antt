@@ -3,4 +3,5 @@ pub mod Checks
 pub mod Nodes
 pub mod Refusals
 pub mod Ground
+pub mod Legal
 pub mod Reading

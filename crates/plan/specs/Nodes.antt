@@ -5,7 +5,7 @@ use mathlib.Core.List.{List, [], _∷_, _++_}
 use lib.Dec.{ltb, eqb}
 use lib.ListN.{replicate}
 use Rattle.sections.specs.Plan.{Job, Plan}
-use Rattle.sections.specs.Tables.{place, exits}
+use Rattle.sections.specs.Tables.{place, entries, exits}
 
 -- the jobs of the nodes in turn, of jobs that are numbered from j on
 unfoldable pub ownersFrom : ℕ → List Job → List ℕ
@@ -19,7 +19,10 @@ owners l = ownersFrom 0 l
 abbrev pub jobOf : Plan → ℕ → ℕ
 jobOf p = place (owners (p .jobs))
 
--- the exit of a job
+-- the entry and the exit of a job
+abbrev pub entryOf : Plan → ℕ → ℕ
+entryOf p = place (entries (p .jobs))
+
 abbrev pub exitOf : Plan → ℕ → ℕ
 exitOf p = place (exits (p .jobs))
 

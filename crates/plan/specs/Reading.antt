@@ -3,7 +3,7 @@ use Prim.Native.Nat.{ℕ}
 use mathlib.Core.Option.{Option, none, some}
 use mathlib.Core.List.{List, []}
 use lib.ListN.{length}
-use Rattle.sections.specs.Plan.{Plan, nothing}
+use Rattle.sections.specs.Plan.{nothing}
 use Rattle.sections.specs.Layout.{headOf, patternAt, planOf}
 use Rattle.sections.specs.Tables.{padded, decodedOf}
 use Rattle.plan.specs.declared.Outcome.{Outcome}

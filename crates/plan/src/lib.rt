@@ -4,17 +4,15 @@ use sections::Decoded;
 use sections::Head;
 use sections::Jobs;
 ghost use mathlib.Core.Path.{_≡_};
-ghost use mathlib.Core.Bool.{_&&_, not};
 ghost use mathlib.Core.Option.{none};
 ghost use mathlib.Core.List.{_++_};
-ghost use lib.Dec.{ltb, eqb};
-ghost use Prim.Native.Nat.{ℕ, _+_, _≤_, _<_};
-ghost use lib.ListN.{length, take, replicate};
+ghost use Prim.Native.Nat.{_+_, _≤_, _<_};
+ghost use lib.ListN.{take, replicate};
 ghost use Rattle.sections.specs.Tables.{padded, place, sizes, jobsIn, arcsIn, planIn};
-ghost use Rattle.plan.specs.Checks.{first, any, anyNumbered};
-ghost use Rattle.plan.specs.Nodes.{owners, total, isNode};
-ghost use Rattle.plan.specs.Ground.{OwnersBelow, faulty, groundOf, Tabled};
-ghost use Rattle.plan.specs.Refusals.{outside, countsOutside, sizesWrong, stray, links, arcs, framing, ends, shape};
+ghost use Rattle.plan.specs.Checks.{first, anyNumbered};
+ghost use Rattle.plan.specs.Nodes.{owners, total};
+ghost use Rattle.plan.specs.Ground.{OwnersBelow, faultsOf, Tabled};
+ghost use Rattle.plan.specs.Refusals.{outside, countsOutside, sizesWrong, stray, framing, ends, shape};
 ghost use Rattle.plan.specs.Reading.{outcomeOf, ownerTable, refused, answered, readingOf};
 ghost use Rattle.sections.specs.Layout.{planOf};
 
@@ -35,32 +33,21 @@ pub struct Reading {
 fn is_outside(low: usize, high: usize, n: usize) -> bool
     ensures { λ r. ⌜ r ≡ outside low high n ⌝ }
 {
-    if n < low { true } else { high < n }
+    (n < low) | (high < n)
 }
 
 // Refusal 2.
 fn counts_outside(h: Head) -> bool
     ensures { λ r. ⌜ r ≡ countsOutside h ⌝ }
 {
-    if is_outside(1, 16, h.jobs) {
-        return true;
-    }
-    if is_outside(1, 256, h.nodes) {
-        return true;
-    }
-    if is_outside(0, 256, h.steps) {
-        return true;
-    }
-    if is_outside(0, 128, h.calls) {
-        return true;
-    }
-    if is_outside(0, 128, h.accepts) {
-        return true;
-    }
-    if is_outside(0, 64, h.channels) {
-        return true;
-    }
-    is_outside(1, 64, h.items)
+    let jobs = is_outside(1, 16, h.jobs);
+    let nodes = is_outside(1, 256, h.nodes);
+    let steps = is_outside(0, 256, h.steps);
+    let calls = is_outside(0, 128, h.calls);
+    let accepts = is_outside(0, 128, h.accepts);
+    let channels = is_outside(0, 64, h.channels);
+    let items = is_outside(1, 64, h.items);
+    jobs | (nodes | (steps | (calls | (accepts | (channels | items)))))
 }
 
 // Refusals 1 to 4.
@@ -91,23 +78,28 @@ fn wide(size: u16) -> usize
     size as usize
 }
 
+fn byte(n: u8) -> usize
+    ensures { λ r. ⌜ (r ≡ n) × (r < 256) ⌝ }
+{
+    n as usize
+}
+
 // Refusal 5.
 fn sizes_wrong(nodes: usize, jobs: Jobs) -> bool
     requires { ⌜ jobs .count ≤ 16 ⌝ }
     ensures { λ r. ⌜ r ≡ sizesWrong nodes (jobsIn jobs) ⌝ }
 {
     let count = jobs.count;
+    let mut none = false;
     let mut sum: usize = 0;
     let mut i: usize = 0;
     while i < count {
         let size = wide(jobs.size[i]);
-        if size == 0 {
-            return true;
-        }
+        none = none | (size == 0);
         sum += size;
         i += 1;
     }
-    sum != nodes
+    none | (sum != nodes)
 }
 
 // The jobs of the first `nodes` nodes.
@@ -151,30 +143,12 @@ fn owners_of(jobs: Jobs) -> Owners
     o
 }
 
-// What the tests of entries, exits and arcs know of the plan.
+// What the tests of entries, exits and arcs go by.
 struct Ground {
     nodes: usize,
     owner: [u8; 256],
     exit: [u8; 16],
     channels: usize,
-}
-
-// What can be wrong with an arc: refusals 7, 8 and 9.
-enum Fault {
-    Apart,
-    Leaving,
-    Unknown,
-}
-
-fn is_node(nodes: usize, owner: [u8; 256], j: usize, n: u8) -> bool
-    ensures { λ r. ⌜ r ≡ isNode nodes (place owner) j n ⌝ }
-{
-    let at = n as usize;
-    if at < nodes {
-        owner[at] as usize == j
-    } else {
-        false
-    }
 }
 
 // Refusal 6.
@@ -184,113 +158,54 @@ fn any_stray(g: Ground, jobs: Jobs) -> bool
 {
     let count = jobs.count;
     let nodes = g.nodes;
-    let owner = g.owner;
+    let mut found = false;
     let mut i: usize = 0;
     while i < count {
-        if !is_node(nodes, owner, i, jobs.entry[i]) {
-            return true;
-        }
-        if !is_node(nodes, owner, i, jobs.exit[i]) {
-            return true;
-        }
+        let entry = byte(jobs.entry[i]);
+        let exit = byte(jobs.exit[i]);
+        let entry_job = byte(g.owner[entry]);
+        let exit_job = byte(g.owner[exit]);
+        found = found
+            | !(((entry < nodes) & (entry_job == i)) & ((exit < nodes) & (exit_job == i)));
         i += 1;
     }
-    false
+    found
 }
 
-fn is_apart(nodes: usize, owner: [u8; 256], from: u8, to: u8) -> bool
-    ensures { λ r. ⌜ r ≡ not (ltb from nodes && (ltb to nodes && eqb (place owner from) (place owner to))) ⌝ }
-{
-    let f = from as usize;
-    let t = to as usize;
-    if nodes <= f {
-        return true;
-    }
-    if nodes <= t {
-        return true;
-    }
-    owner[f] != owner[t]
+// Whether an arc of a section has the fault of refusal 7, of 8, of 9.
+struct Faults {
+    apart: bool,
+    leaving: bool,
+    unknown: bool,
 }
 
-fn is_leaving(owner: [u8; 256], exit: [u8; 16], from: u8) -> bool
-    requires { ⌜ OwnersBelow 16 owner ⌝ }
-    ensures { λ r. ⌜ r ≡ eqb from (place exit (place owner from)) ⌝ }
-{
-    let f = from as usize;
-    let job = owner[f] as usize;
-    from == exit[job]
-}
-
-// Whether the arc has the fault.
-fn is_faulty(fault: Fault, g: Ground, from: u8, to: u8, label: u8) -> bool
-    requires { ⌜ OwnersBelow 16 (g .owner) ⌝ }
-    ensures { λ r. ⌜ r ≡ faulty fault g (record { from = from; to = to; label = label }) ⌝ }
-{
-    let owner = g.owner;
-    match fault {
-        Fault::Apart => is_apart(g.nodes, owner, from, to),
-        Fault::Leaving => {
-            let exit = g.exit;
-            is_leaving(owner, exit, from)
-        }
-        Fault::Unknown => g.channels <= label as usize,
-    }
-}
-
-// Whether an arc of the section has the fault.
-fn any_faulty(fault: Fault, g: Ground, arcs: Arcs) -> bool
+fn find_faults(g: Ground, arcs: Arcs) -> Faults
     requires { ⌜ (arcs .count ≤ 256) × OwnersBelow 16 (g .owner) ⌝ }
-    ensures { λ r. ⌜ r ≡ any (faulty fault g) (arcsIn arcs) ⌝ }
+    ensures { λ r. ⌜ r ≡ faultsOf g (arcsIn arcs) ⌝ }
 {
     let count = arcs.count;
+    let nodes = g.nodes;
+    let channels = g.channels;
+    let mut apart = false;
+    let mut leaving = false;
+    let mut unknown = false;
     let mut i: usize = 0;
     while i < count {
-        if is_faulty(fault, g, arcs.from[i], arcs.to[i], arcs.label[i]) {
-            return true;
-        }
+        let from = byte(arcs.from[i]);
+        let to = byte(arcs.to[i]);
+        let label = byte(arcs.label[i]);
+        let job = byte(g.owner[from]);
+        let other = byte(g.owner[to]);
+        let exit = byte(g.exit[job]);
+        apart = apart | !((from < nodes) & ((to < nodes) & (job == other)));
+        leaving = leaving | (from == exit);
+        unknown = unknown | (channels <= label);
         i += 1;
     }
-    false
-}
-
-// Whether a call or an accept has the fault.
-fn in_links(fault: Fault, g: Ground, d: Decoded) -> bool
-    requires { ⌜ Tabled d × OwnersBelow 16 (g .owner) ⌝ }
-    ensures { λ r. ⌜ r ≡ any (faulty fault g) (links (planIn d)) ⌝ }
-{
-    let calls = d.calls;
-    let accepts = d.accepts;
-    if any_faulty(fault, g, calls) {
-        return true;
-    }
-    any_faulty(fault, g, accepts)
-}
-
-// Whether a local step, a call or an accept has the fault.
-fn in_arcs(fault: Fault, g: Ground, d: Decoded) -> bool
-    requires { ⌜ Tabled d × OwnersBelow 16 (g .owner) ⌝ }
-    ensures { λ r. ⌜ r ≡ any (faulty fault g) (arcs (planIn d)) ⌝ }
-{
-    let steps = d.steps;
-    if any_faulty(fault, g, steps) {
-        return true;
-    }
-    in_links(fault, g, d)
-}
-
-// What the tests of refusals 6 to 9 go by.
-fn ground_of(d: Decoded, owner: [u8; 256]) -> Ground
-    requires { ⌜ Tabled d × (owner ≡ padded 256 (owners (planIn d .jobs))) ⌝ }
-    ensures { λ r. ⌜ r ≡ groundOf (planIn d) ⌝ }
-{
-    let jobs = d.jobs;
-    let exit = jobs.exit;
-    let channels = d.channels;
-    Ground {
-        nodes: d.nodes,
-        owner: owner,
-        exit: exit,
-        channels: channels.count,
+    Faults {
+        apart: apart,
+        leaving: leaving,
+        unknown: unknown,
     }
 }
 
@@ -299,18 +214,31 @@ fn bounded(d: Decoded, owner: [u8; 256]) -> Outcome
     requires { ⌜ Tabled d × (owner ≡ padded 256 (owners (planIn d .jobs))) ⌝ }
     ensures { λ r. ⌜ r ≡ outcomeOf (first ends (planIn d)) ⌝ }
 {
-    let g = ground_of(d, owner);
     let jobs = d.jobs;
+    let exit = jobs.exit;
+    let channels = d.channels;
+    let g = Ground {
+        nodes: d.nodes,
+        owner: owner,
+        exit: exit,
+        channels: channels.count,
+    };
     if any_stray(g, jobs) {
         return Outcome::Refused(6);
     }
-    if in_arcs(Fault::Apart, g, d) {
+    let steps = d.steps;
+    let calls = d.calls;
+    let accepts = d.accepts;
+    let s = find_faults(g, steps);
+    let c = find_faults(g, calls);
+    let a = find_faults(g, accepts);
+    if s.apart | (c.apart | a.apart) {
         return Outcome::Refused(7);
     }
-    if in_arcs(Fault::Leaving, g, d) {
+    if s.leaving | (c.leaving | a.leaving) {
         return Outcome::Refused(8);
     }
-    if in_links(Fault::Unknown, g, d) {
+    if c.unknown | a.unknown {
         return Outcome::Refused(9);
     }
     Outcome::Accepted

@@ -1,11 +1,11 @@
 -- Laws of rows of records and of padded arrays. Assumes nothing.
-use mathlib.Core.Path.{_≡_, refl, sym, ap, _∙_, subst}
-use mathlib.Core.List.{List, [], _∷_, _++_, map, append-assoc, append-nil}
+use mathlib.Core.Path.{_≡_, refl, sym, ap, _∙_}
+use mathlib.Core.List.{List, [], _∷_, _++_, map}
 use Prim.Native.Nat.{ℕ, zero, suc, _+_, _-_, _*_, _≤_, _<_}
 use native.Mathlib.Nat.{mul-suc, mul-le-mul, mul-le-mul-left}
 use native.Mathlib.Numerals.{add-one}
 use native.Mathlib.Omega.{arith}
-use lib.ListN.{length, getD, set, replicate, length-append, length-map}
+use lib.ListN.{length, set, replicate, length-append}
 use lib.Seq.{set-at, append-snoc}
 use Rattle.fields.specs.Bits.{eventsAt}
 use Rattle.sections.specs.Layout.{row, alphabetAt, jobsOf, arcsAt, stepsAt, channelsOf, callsAt, acceptsAt, planUnder}
@@ -46,10 +46,6 @@ map-row g f zero = refl
 map-row g f (suc n) = map-append g (row n f) (f n ∷ []) ∙ ap (λ l. l ++ (g (f n) ∷ [])) (map-row g f n)
 
 -- ---- padded arrays
-
-pub padded-none : (n : ℕ) → padded n [] ≡ replicate n 0
-unfolding padded
-padded-none n = let z : n - length {A = ℕ} [] ≡ n = omega arith in rw z
 
 -- one place more is filled
 pub padded-push : (n : ℕ) (xs : List ℕ) (i v : ℕ) → length xs ≡ i → i < n → set (padded n xs) i v ≡ padded n (xs ++ (v ∷ []))

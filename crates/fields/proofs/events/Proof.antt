@@ -5,10 +5,9 @@ use Prim.Native.Nat.{ℕ, _+_, _-_, _*_, _^_, _≤_, _<_}
 use native.Mathlib.Omega.{arith}
 use native.Mathlib.Nat.{pow-suc}
 use native.Mathlib.Numerals.{add-one}
-use lib.ListN.{length, getD}
+use lib.ListN.{length}
 use lib.Pow.{pow-mono}
-use Rattle.fields.specs.Bits.{bitsOf, eventsAt}
-use Rattle.fields.proofs.Laws.{eventsIn, events-none, events-hit, events-miss, events-all, bit-lt}
+use Rattle.fields.proofs.Laws.{eventsIn, events-none, events-hit, events-miss, events-all}
 use Rattle.fields.proofs.events.Statement.{statement}
 use Rattle.fields.proofs.events.Tie as tie
 

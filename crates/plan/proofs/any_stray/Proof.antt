@@ -1,50 +1,48 @@
--- `any_stray` passes the jobs in turn: none of those passed has a stray entry or exit. Assumes nothing.
-use borrow.Author.Tests.{not-true, not-false}
+-- `any_stray` passes the jobs in turn: whether one of those passed has a stray entry or exit. Assumes nothing.
 use mathlib.Core.Path.{_≡_, sym, ap, _∙_}
-use mathlib.Core.Bool.{Bool, true, false, not, _&&_}
 use Prim.Native.Nat.{ℕ, _-_, _≤_}
 use native.Mathlib.Omega.{arith}
 use Rattle.sections.specs.Layout.{row}
 use Rattle.sections.specs.Tables.{place, jobIn}
 use Rattle.plan.specs.Checks.{anyNumbered}
-use Rattle.plan.specs.Nodes.{isNode}
 use Rattle.plan.specs.Refusals.{stray}
-use Rattle.plan.proofs.Tests.{told, any-row-none, any-row-miss, any-row-hit, fails-left, fails-right, holds-both}
+use Rattle.plan.proofs.Tests.{any-row-none}
+use Rattle.plan.proofs.Turns.{job-turn, stray-read}
 use Rattle.plan.proofs.any_stray.Statement.{statement}
 use Rattle.plan.proofs.any_stray.Tie as tie
 
 abbrev Inv-loop : tie.InvT-loop
-Inv-loop jobs count nodes owner i₀ i = (i ≤ count) × (anyNumbered (stray nodes (place owner)) (row i (jobIn jobs)) ≡ false)
+Inv-loop g jobs count nodes found₀ i₀ found i = (i ≤ count) × (found ≡ anyNumbered (stray (g .nodes) (place (g .owner))) (row i (jobIn jobs)))
 
 abbrev μ-loop : tie.MeasureT-loop
-μ-loop jobs count nodes owner i₀ i = count - i
+μ-loop g jobs count nodes found₀ i₀ found i = count - i
 
 loop-holds : tie.Need-loop-holds Inv-loop μ-loop
-loop-holds c = (omega arith, any-row-none (stray (c .before .args .g .nodes) (place (c .before .args .g .owner))) (jobIn (c .before .args .t2)))
+loop-holds c = (omega arith, sym (any-row-none (stray (c .args .t1 .nodes) (place (c .args .t1 .owner))) (jobIn (c .args .t2))))
 
-element-copy-out-is-node : tie.Need-element-copy-out-is-node Inv-loop μ-loop
-element-copy-out-is-node c = omega arith
+element-copy-out-byte : tie.Need-element-copy-out-byte Inv-loop μ-loop
+element-copy-out-byte c = omega arith
 
-is-node-requires : tie.Need-is-node-requires Inv-loop μ-loop
-is-node-requires c κs = tt
+byte-requires : tie.Need-byte-requires Inv-loop μ-loop
+byte-requires c κs = tt
 
-returns : tie.Need-returns Inv-loop μ-loop
-returns c =
-    let args = c .before .before .before .before .before .before .args in
-    let i = c .before .before .before .before .loop .i in
-    sym (any-row-hit (stray (args .g .nodes) (place (args .g .owner))) i (args .t2 .count) (jobIn (args .t2)) (omega arith) (fails-left _ _ (told (c .before .is-node .ensures) (not-true _ (c .if1 .taken)))))
+element-copy-out-byte-2 : tie.Need-element-copy-out-byte-2 Inv-loop μ-loop
+element-copy-out-byte-2 c = omega arith
 
-element-copy-out-is-node-2 : tie.Need-element-copy-out-is-node-2 Inv-loop μ-loop
-element-copy-out-is-node-2 c = omega arith
+byte-requires-2 : tie.Need-byte-requires-2 Inv-loop μ-loop
+byte-requires-2 c κs = tt
 
-is-node-requires-2 : tie.Need-is-node-requires-2 Inv-loop μ-loop
-is-node-requires-2 c κs = tt
+element-copy-out-byte-3 : tie.Need-element-copy-out-byte-3 Inv-loop μ-loop
+element-copy-out-byte-3 c = c .before .before .byte .ensures .1
 
-returns-2 : tie.Need-returns-2 Inv-loop μ-loop
-returns-2 c =
-    let args = c .before .before .before .before .before .before .before .before .before .args in
-    let i = c .before .before .before .before .before .before .before .loop .i in
-    sym (any-row-hit (stray (args .g .nodes) (place (args .g .owner))) i (args .t2 .count) (jobIn (args .t2)) (omega arith) (fails-right (isNode (args .g .nodes) (place (args .g .owner)) i (place (args .t2 .entry) i)) _ (told (c .before .is-node2 .ensures) (not-true _ (c .if2 .taken)))))
+byte-requires-3 : tie.Need-byte-requires-3 Inv-loop μ-loop
+byte-requires-3 c κs = tt
+
+element-copy-out-byte-4 : tie.Need-element-copy-out-byte-4 Inv-loop μ-loop
+element-copy-out-byte-4 c = c .before .before .byte2 .ensures .1
+
+byte-requires-4 : tie.Need-byte-requires-4 Inv-loop μ-loop
+byte-requires-4 c κs = tt
 
 add-i : tie.Need-add-i Inv-loop μ-loop
 add-i c = omega arith
@@ -54,18 +52,19 @@ loop-less c = omega arith
 
 loop-again : tie.Need-loop-again Inv-loop μ-loop
 loop-again c =
-    let args = c .before .before .before .before .before .before .before .before .before .args in
-    let i = c .before .before .before .before .before .before .before .loop .i in (
+    let g = c .before .before .before .before .before .before .before .before .before .before .args .t1 in
+    let jobs = c .before .before .before .before .before .before .before .before .before .before .args .t2 in
+    let loop = c .before .before .before .before .before .before .before .before .before .loop in (
       omega arith,
-      any-row-miss (stray (args .g .nodes) (place (args .g .owner))) i (jobIn (args .t2)) (c .before .before .before .before .before .before .before .loop .inv .1)
-          (holds-both _ _ (told (c .before .before .before .before .is-node .ensures) (not-false _ (c .before .before .before .if1 .left))) (told (c .before .is-node2 .ensures) (not-false _ (c .if2 .left)))),
+      job-turn (stray (g .nodes) (place (g .owner))) jobs (loop .i) (loop .found) _ (loop .inv .1)
+          (stray-read g jobs (loop .i) _ _ _ _ (c .before .before .before .before .before .before .byte .ensures .0) (c .before .before .before .before .byte2 .ensures .0) (c .before .before .byte3 .ensures .0) (c .byte4 .ensures .0)),
     )
 
-returns-3 : tie.Need-returns-3 Inv-loop μ-loop
-returns-3 c =
-    let args = c .before .before .before .args in
-    let e : c .before .loop .i ≡ c .before .before .before .args .t2 .count = omega arith in
-    sym (c .before .loop .inv .1) ∙ ap (λ (n : ℕ). anyNumbered (stray (args .g .nodes) (place (args .g .owner))) (row n (jobIn (args .t2)))) e
+returns : tie.Need-returns Inv-loop μ-loop
+returns c =
+    let g = c .before .before .args .t1 in
+    let e : c .before .loop .i ≡ c .before .before .args .t2 .count = omega arith in
+    c .before .loop .inv .1 ∙ ap (λ (n : ℕ). anyNumbered (stray (g .nodes) (place (g .owner))) (row n (jobIn (c .before .before .args .t2)))) e
 
 pub any-stray-spec : {M : Type 1} → statement M
 any-stray-spec =
@@ -74,13 +73,15 @@ any-stray-spec =
     Inv-loop
     μ-loop
     loop-holds
-    element-copy-out-is-node
-    is-node-requires
-    returns
-    element-copy-out-is-node-2
-    is-node-requires-2
-    returns-2
+    element-copy-out-byte
+    byte-requires
+    element-copy-out-byte-2
+    byte-requires-2
+    element-copy-out-byte-3
+    byte-requires-3
+    element-copy-out-byte-4
+    byte-requires-4
     add-i
     loop-less
     loop-again
-    returns-3)
+    returns)

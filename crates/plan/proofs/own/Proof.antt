@@ -1,12 +1,11 @@
 -- `own` fills the places behind the nodes that have their jobs. Assumes nothing.
-use mathlib.Core.Path.{_≡_, refl, sym, ap, _∙_}
+use mathlib.Core.Path.{_≡_, sym, ap, _∙_}
 use mathlib.Core.List.{_++_, append-nil}
-use Prim.Native.Nat.{ℕ, _+_, _-_, _≤_, _<_}
+use Prim.Native.Nat.{ℕ, _+_, _-_, _≤_}
 use native.Mathlib.Omega.{arith}
 use lib.ListN.{length, take, replicate, length-append, length-replicate}
 use Rattle.sections.specs.Tables.{padded}
 use Rattle.plan.specs.declared.Owners.{Owners}
-use Rattle.plan.specs.Reading.{ownerTable}
 use Rattle.plan.proofs.Nodes.{own-more}
 use Rattle.plan.proofs.own.Statement.{statement}
 use Rattle.plan.proofs.own.Tie as tie

@@ -3,9 +3,9 @@ use mathlib.Core.Path.{_≡_, refl, sym, ap, _∙_}
 use mathlib.Core.List.{_++_}
 use Prim.Native.Nat.{ℕ, _+_, _-_, _≤_}
 use native.Mathlib.Omega.{arith}
-use lib.ListN.{length, replicate}
+use lib.ListN.{replicate}
 use Rattle.sections.specs.Layout.{row}
-use Rattle.sections.specs.Tables.{padded, place, jobIn}
+use Rattle.sections.specs.Tables.{padded, jobIn}
 use Rattle.plan.specs.declared.Owners.{Owners}
 use Rattle.plan.specs.Nodes.{owners, ownersFrom}
 use Rattle.plan.specs.Reading.{ownerTable}

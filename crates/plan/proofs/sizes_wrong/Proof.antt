@@ -1,8 +1,7 @@
--- `sizes_wrong` passes the jobs in turn: none of those passed has size 0, and the sum is theirs. Assumes nothing.
-use borrow.Author.Tests.{eq-eqb, ne-eqb}
-use mathlib.Core.Path.{_≡_, refl, sym, ap, _∙_}
-use mathlib.Core.Bool.{Bool, false, not}
-use Prim.Native.Nat.{ℕ, _+_, _*_, _-_, _≤_}
+-- `sizes_wrong` passes the jobs in turn: whether one of those passed has size 0, and the sum of their sizes. Assumes nothing.
+use mathlib.Core.Path.{_≡_, sym, ap, _∙_}
+use mathlib.Core.Bool.{Bool, _||_, not}
+use Prim.Native.Nat.{ℕ, _*_, _-_, _≤_}
 use native.Mathlib.Omega.{arith}
 use lib.Dec.{eqb}
 use Rattle.sections.specs.Plan.{Job}
@@ -11,7 +10,8 @@ use Rattle.sections.specs.Tables.{sizes, jobIn}
 use Rattle.plan.specs.Checks.{any}
 use Rattle.plan.specs.Nodes.{total}
 use Rattle.plan.specs.Refusals.{sizesWrong}
-use Rattle.plan.proofs.Tests.{or-hit, or-pass, any-row-none, any-row-miss, any-row-hit}
+use Rattle.plan.proofs.Tests.{any-row-none}
+use Rattle.plan.proofs.Turns.{job-turn}
 use Rattle.plan.proofs.Nodes.{total-none, total-more}
 use Rattle.plan.proofs.sizes_wrong.Statement.{statement}
 use Rattle.plan.proofs.sizes_wrong.Tie as tie
@@ -20,13 +20,13 @@ abbrev zero-size : ℕ → Job → Bool
 zero-size k b = eqb (b .size) 0
 
 abbrev Inv-loop : tie.InvT-loop
-Inv-loop nodes jobs count sum₀ i₀ sum i = (i ≤ count) × (any (λ (b : Job). eqb (b .size) 0) (row i (jobIn jobs)) ≡ false) × (sum ≡ total (sizes (row i (jobIn jobs)))) × (sum ≤ 65535 * i)
+Inv-loop nodes jobs count none₀ sum₀ i₀ none sum i = (i ≤ count) × (none ≡ any (λ (b : Job). eqb (b .size) 0) (row i (jobIn jobs))) × (sum ≡ total (sizes (row i (jobIn jobs)))) × (sum ≤ 65535 * i)
 
 abbrev μ-loop : tie.MeasureT-loop
-μ-loop nodes jobs count sum₀ i₀ sum i = count - i
+μ-loop nodes jobs count none₀ sum₀ i₀ none sum i = count - i
 
 loop-holds : tie.Need-loop-holds Inv-loop μ-loop
-loop-holds c = (omega arith, any-row-none zero-size (jobIn (c .args .t2)), sym (total-none (jobIn (c .args .t2))), omega arith)
+loop-holds c = (omega arith, sym (any-row-none zero-size (jobIn (c .args .t2))), sym (total-none (jobIn (c .args .t2))), omega arith)
 
 mul-wide : tie.Need-mul-wide Inv-loop μ-loop
 mul-wide c = omega arith
@@ -37,15 +37,8 @@ element-copy-out-wide c = omega arith
 wide-requires : tie.Need-wide-requires Inv-loop μ-loop
 wide-requires c κs = tt
 
-returns : tie.Need-returns Inv-loop μ-loop
-returns c =
-    let args = c .before .before .before .before .before .args in
-    let i = c .before .before .before .before .loop .i in
-    let hit = any-row-hit zero-size i (args .t2 .count) (jobIn (args .t2)) (omega arith) (eq-eqb _ 0 (sym (c .before .wide .ensures .0) ∙ c .if1 .taken)) in
-    sym (or-hit _ _ hit)
-
 add-sum : tie.Need-add-sum Inv-loop μ-loop
-add-sum c = omega (arith, c .before .wide .ensures)
+add-sum c = omega (arith, c .wide .ensures)
 
 add-i : tie.Need-add-i Inv-loop μ-loop
 add-i c = omega arith
@@ -55,24 +48,24 @@ loop-less c = omega arith
 
 loop-again : tie.Need-loop-again Inv-loop μ-loop
 loop-again c =
-    let args = c .before .before .before .before .before .args in
-    let i = c .before .before .before .before .loop .i in
-    let w = c .before .wide .ensures in
-    let inv = c .before .before .before .before .loop .inv in
-    let more = total-more (jobIn (args .t2)) i in (
+    let jobs = c .before .before .before .before .args .t2 in
+    let loop = c .before .before .before .loop in
+    let w = c .wide .ensures in
+    let more = total-more (jobIn jobs) (loop .i) in (
       omega arith,
-      any-row-miss zero-size i (jobIn (args .t2)) (inv .1) (ne-eqb _ 0 (λ z. c .if1 .left (w .0 ∙ z))),
-      omega (arith, inv .2, w .0),
-      omega (arith, inv .3, w .1),
+      job-turn zero-size jobs (loop .i) (loop .none) _ (loop .inv .1) (ap (λ (n : ℕ). eqb n 0) (w .0)),
+      omega (arith, loop .inv .2, w .0),
+      omega (arith, loop .inv .3, w .1),
     )
 
-returns-2 : tie.Need-returns-2 Inv-loop μ-loop
-returns-2 c =
+returns : tie.Need-returns Inv-loop μ-loop
+returns c =
     let args = c .before .before .args in
     let inv = c .before .loop .inv in
     let e : c .before .loop .i ≡ c .before .before .args .t2 .count = omega arith in
-    ap (λ (n : ℕ). not (eqb n (args .nodes))) (inv .2) ∙ sym (or-pass _ _ (inv .1))
-    ∙ ap (λ (n : ℕ). sizesWrong (args .nodes) (row n (jobIn (args .t2)))) e
+    let found : (c .before .loop .none || not (eqb (c .before .loop .sum) (args .nodes))) ≡ sizesWrong (args .nodes) (row (c .before .loop .i) (jobIn (args .t2))) =
+    λ k. inv .1 k || not (eqb (inv .2 k) (args .nodes)) in
+    found ∙ ap (λ (n : ℕ). sizesWrong (args .nodes) (row n (jobIn (args .t2)))) e
 
 pub sizes-wrong-spec : {M : Type 1} → statement M
 sizes-wrong-spec =
@@ -84,9 +77,8 @@ sizes-wrong-spec =
     mul-wide
     element-copy-out-wide
     wide-requires
-    returns
     add-sum
     add-i
     loop-less
     loop-again
-    returns-2)
+    returns)

@@ -1,10 +1,6 @@
 -- `blank` is the tables of the plan that says nothing. Assumes nothing.
 use borrow.Author.Needs.{needs}
-use mathlib.Core.Path.{_≡_}
-use Rattle.sections.specs.declared.Arcs.{Arcs}
-use Rattle.sections.specs.declared.Decoded.{Decoded}
-use Rattle.sections.specs.Tables.{padded, arcTable, decodedOf}
-use Rattle.sections.specs.Plan.{nothing}
+use Rattle.sections.specs.Tables.{padded}
 use Rattle.sections.proofs.blank.Statement.{statement}
 use Rattle.sections.proofs.blank.Tie as tie
 

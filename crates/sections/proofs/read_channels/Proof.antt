@@ -1,13 +1,11 @@
 -- `read_channels` fills its array from the front: after i turns it holds the first i events. Assumes nothing.
-use mathlib.Core.Path.{_≡_, refl, sym, ap, _∙_}
-use Prim.Native.Nat.{ℕ, _+_, _-_, _*_, _≤_, _<_}
+use mathlib.Core.Path.{_≡_, refl}
+use Prim.Native.Nat.{ℕ, _+_, _-_, _*_, _≤_}
 use native.Mathlib.Omega.{arith}
-use lib.ListN.{length, replicate}
 use Rattle.fields.specs.Bits.{fieldAt}
 use Rattle.fields.proofs.Laws.{field-lt}
-use Rattle.sections.specs.declared.Channels.{Channels}
 use Rattle.sections.specs.Layout.{row}
-use Rattle.sections.specs.Tables.{padded, channelTable}
+use Rattle.sections.specs.Tables.{padded}
 use Rattle.sections.proofs.Rows.{padded-row-more, channels-read}
 use Rattle.sections.proofs.read_channels.Statement.{statement}
 use Rattle.sections.proofs.read_channels.Tie as tie

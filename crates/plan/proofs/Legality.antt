@@ -1,0 +1,134 @@
+-- An accepted plan is legal. Assumes nothing.
+use mathlib.Core.Path.{_≡_, refl, sym}
+use mathlib.Core.Bool.{Bool, true, false, _&&_}
+use mathlib.Core.Logic.{⊎-elim}
+use mathlib.Core.Option.{none}
+use mathlib.Core.List.{List, [], _∷_, List·Memᴰ, List·Memᴰ·not-nil, List·Memᴰ·cases-cons, List·Memᴰ·append-cases, List·Memᴰ·eq-of-singleton}
+use Prim.Native.Nat.{ℕ, zero, suc, _+_, _*_, _<_}
+use native.Mathlib.Nat.{not-suc-le-zero, le-of-suc-le-suc}
+use native.Mathlib.Omega.{arith}
+use borrow.Author.Tests.{ltb-true, leb-false, eqb-true, eqb-false, not-false}
+use lib.Dec.{ltb}
+use lib.ListN.{length, getD, List·getD-map}
+use Rattle.fields.specs.Bits.{fieldAt}
+use Rattle.fields.proofs.Laws.{field-lt}
+use Rattle.sections.specs.Plan.{Job, Arc, Plan}
+use Rattle.sections.specs.Layout.{row, headOf, stepsAt, channelsAt, planOf}
+use Rattle.sections.proofs.Rows.{row-length}
+use Rattle.plan.specs.Checks.{first, anyFrom, any, anyNumbered}
+use Rattle.plan.specs.Nodes.{jobOf, entryOf, exitOf, isNode}
+use Rattle.plan.specs.Refusals.{sizesWrong, stray, apart, leaving, unknown, arcs, links, ends, shape, order}
+use Rattle.plan.specs.Legal.{NodeOf, Inside, Legal}
+use Rattle.plan.proofs.Tests.{or-none, first-none}
+use Rattle.plan.proofs.Ranges.{Framed, framed}
+use Rattle.plan.proofs.Ends.{order-none, sizes-right}
+
+-- ---- tests that hold of none
+
+none-of : {A : Type 0} (test : ℕ → A → Bool) (k : ℕ) (l : List A) → anyFrom test k l ≡ false → (d : A) (i : ℕ) → i < length l → test (k + i) (getD l i d) ≡ false
+unfolding anyFrom
+none-of test k [] e d i h = absurd (not-suc-le-zero h)
+none-of test k (x ∷ xs) e d zero h = let z : k + 0 ≡ k = omega arith in rw z (or-none (test k x) _ e .0)
+none-of test k (x ∷ xs) e d (suc i) h =
+    let s : k + suc i ≡ suc k + i = omega arith in
+    rw s (none-of test (suc k) xs (or-none (test k x) _ e .1) d i (le-of-suc-le-suc h))
+
+none-in : {A : Type 0} (test : A → Bool) (k : ℕ) (l : List A) → anyFrom (λ i x. test x) k l ≡ false → (a : A) → List·Memᴰ a l → test a ≡ false
+unfolding anyFrom
+none-in test k [] e a m = absurd (List·Memᴰ·not-nil m)
+none-in test k (x ∷ xs) e a m =
+    let b = or-none (test x) _ e in
+    ⊎-elim (λ (q : a ≡ x). rw q (b .0)) (λ (n : List·Memᴰ a xs). none-in test (suc k) xs (b .1) a n) (List·Memᴰ·cases-cons m)
+
+-- a member of a row is one of its records
+in-row : {A : Type 0} (f : ℕ → A) (n : ℕ) (a : A) → List·Memᴰ a (row n f) → (i : ℕ) × (i < n) × (a ≡ f i)
+unfolding row
+in-row f zero a m = absurd (List·Memᴰ·not-nil m)
+in-row f (suc n) a m =
+    ⊎-elim (λ l. let r = in-row f n a l in (r .0, omega arith, r .2)) (λ r. (n, omega arith, List·Memᴰ·eq-of-singleton r)) (List·Memᴰ·append-cases (row n f) m)
+
+-- ---- tests read back
+
+both : (a b : Bool) → (a && b) ≡ true → (a ≡ true) × (b ≡ true)
+both true b e = (refl, e)
+both false b e = (cc, cc)
+
+node-of : (p : Plan) (j n : ℕ) → isNode (p .nodes) (jobOf p) j n ≡ true → NodeOf p j n
+node-of p j n e = let b = both (ltb n (p .nodes)) _ e in record { node = ltb-true _ _ (b .0); owner = eqb-true _ _ (b .1) }
+
+inside-of : (p : Plan) (a : Arc) → apart (p .nodes) (jobOf p) a ≡ false → leaving (jobOf p) (exitOf p) a ≡ false → Inside p a
+inside-of p a e f =
+    let b = both (ltb (a .from) (p .nodes)) _ (not-false _ e) in
+    let c = both (ltb (a .to) (p .nodes)) _ (b .1) in
+    record { from = ltb-true _ _ (b .0); to = record { node = ltb-true _ _ (c .0); owner = sym (eqb-true _ _ (c .1)) }; stays = eqb-false _ _ f }
+
+-- ---- fields of 5 bits
+
+module _ (b : List ℕ) (f : Framed b) where
+  step-event : (i : ℕ) → i < headOf b .steps → fieldAt b (stepsAt (headOf b) + 21 * i + 16) 5 < 32
+  step-event i h = field-lt b (stepsAt (headOf b) + 21 * i + 16) 5 (omega (arith, f .sections))
+
+  channel-event : (i : ℕ) → i < headOf b .channels → fieldAt b (channelsAt (headOf b) + 5 * i) 5 < 32
+  channel-event i h = field-lt b (channelsAt (headOf b) + 5 * i) 5 (omega (arith, f .sections))
+
+-- ---- the plan
+
+noJob : Job
+noJob = record { size = 0; entry = 0; exit = 0 }
+
+-- where none of refusals 5 to 9 applies
+record Shaped (p : Plan) : Type 0 where
+  sizes : sizesWrong (p .nodes) (p .jobs) ≡ false
+  ends : anyNumbered (stray (p .nodes) (jobOf p)) (p .jobs) ≡ false
+  joined : any (apart (p .nodes) (jobOf p)) (arcs p) ≡ false
+  staying : any (leaving (jobOf p) (exitOf p)) (arcs p) ≡ false
+  known : any (unknown (length (p .channels))) (links p) ≡ false
+
+shaped : (p : Plan) → first shape p ≡ none → Shaped p
+shaped p e =
+    let five = first-none 5 (λ (q : Plan). sizesWrong (q .nodes) (q .jobs)) ends p e in
+    let six = first-none 6 (λ (q : Plan). anyNumbered (stray (q .nodes) (jobOf q)) (q .jobs)) _ p (five .1) in
+    let seven = first-none 7 (λ (q : Plan). any (apart (q .nodes) (jobOf q)) (arcs q)) _ p (six .1) in
+    let eight = first-none 8 (λ (q : Plan). any (leaving (jobOf q) (exitOf q)) (arcs q)) _ p (seven .1) in
+    let nine = first-none 9 (λ (q : Plan). any (unknown (length (q .channels))) (links q)) _ p (eight .1) in
+    record { sizes = five .0; ends = six .0; joined = seven .0; staying = eight .0; known = nine .0 }
+
+-- the entry and the exit of a job are nodes of it
+ends-of : (p : Plan) → Shaped p → (j : ℕ) → j < length (p .jobs) → NodeOf p j (entryOf p j) × NodeOf p j (exitOf p j)
+unfolding noJob
+ends-of p s j h =
+    let job = getD (p .jobs) j noJob in
+    let t = none-of (stray (p .nodes) (jobOf p)) 0 (p .jobs) (s .ends) noJob j h in
+    let z : 0 + j ≡ j = omega arith in
+    let u : stray (p .nodes) (jobOf p) j job ≡ false = rw z at t in
+    let n = both (isNode (p .nodes) (jobOf p) j (job .entry)) _ (not-false _ u) in (
+      rw (List·getD-map (λ (b : Job). b .entry) (p .jobs) j noJob) (node-of p j (job .entry) (n .0)),
+      rw (List·getD-map (λ (b : Job). b .exit) (p .jobs) j noJob) (node-of p j (job .exit) (n .1)),
+    )
+
+pub legal : (b : List ℕ) → first order b ≡ none → Legal (planOf b)
+unfolding planOf
+legal b e =
+    let p = planOf b in
+    let parts = order-none b e in
+    let f = framed b (parts .0) in
+    let s = shaped (planOf b) (parts .1) in
+    record {
+      some-job = rw row-length (f .counts .some-job);
+      jobs = rw row-length (f .counts .jobs);
+      some-node = f .counts .some-node;
+      nodes = f .counts .nodes;
+      steps = rw row-length (f .counts .steps);
+      channels = rw row-length (f .counts .channels);
+      calls = rw row-length (f .counts .calls);
+      accepts = rw row-length (f .counts .accepts);
+      some-item = f .counts .some-item;
+      items = f .counts .items;
+      sizes = sizes-right (p .nodes) (p .jobs) (s .sizes);
+      entry = λ j h. ends-of p s j h .0;
+      exit = λ j h. ends-of p s j h .1;
+      inside = λ a m. inside-of p a (none-in (apart (p .nodes) (jobOf p)) 0 (arcs p) (s .joined) a m) (none-in (leaving (jobOf p) (exitOf p)) 0 (arcs p) (s .staying) a m);
+      channel = λ a m. leb-false _ _ (none-in (unknown (length (p .channels))) 0 (links p) (s .known) a m);
+      event = λ a m. let r = in-row _ (headOf b .steps) a m in rw (r .2) (step-event b f (r .0) (r .1));
+      channel-event = λ x m. let r = in-row _ (headOf b .channels) x m in rw (r .2) (channel-event b f (r .0) (r .1));
+    }

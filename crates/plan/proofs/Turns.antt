@@ -1,0 +1,54 @@
+-- One turn of the loops that test a section: the record i is tested, and then the first i + 1 are. Assumes nothing.
+use mathlib.Core.Path.{_≡_, sym, ap, _∙_}
+use mathlib.Core.Bool.{Bool, _&&_, _||_, not}
+use Prim.Native.Nat.{ℕ, _+_}
+use lib.Dec.{ltb, leb, eqb}
+use Rattle.sections.specs.declared.Jobs.{Jobs}
+use Rattle.sections.specs.declared.Arcs.{Arcs}
+use Rattle.sections.specs.Plan.{Job, Arc}
+use Rattle.sections.specs.Layout.{row}
+use Rattle.sections.specs.Tables.{place, jobIn, arcIn}
+use Rattle.plan.specs.declared.Ground.{Ground}
+use Rattle.plan.specs.Checks.{any, anyNumbered}
+use Rattle.plan.specs.Refusals.{stray, apart, leaving, unknown}
+use Rattle.plan.proofs.Tests.{any-row-more}
+
+module _ (test : ℕ → Job → Bool) (jobs : Jobs) (i : ℕ) where
+  pub job-turn : (found hit : Bool) → found ≡ anyNumbered test (row i (jobIn jobs)) → hit ≡ test i (jobIn jobs i) → (found || hit) ≡ anyNumbered test (row (i + 1) (jobIn jobs))
+  job-turn found hit e h =
+      let s : (found || hit) ≡ (anyNumbered test (row i (jobIn jobs)) || test i (jobIn jobs i)) = λ k. e k || h k in
+      s ∙ sym (any-row-more test i (jobIn jobs))
+
+module _ (test : Arc → Bool) (arcs : Arcs) (i : ℕ) where
+  pub arc-turn : (found hit : Bool) → found ≡ any test (row i (arcIn arcs)) → hit ≡ test (arcIn arcs i) → (found || hit) ≡ any test (row (i + 1) (arcIn arcs))
+  arc-turn found hit e h =
+      let s : (found || hit) ≡ (any test (row i (arcIn arcs)) || test (arcIn arcs i)) = λ k. e k || h k in
+      s ∙ sym (any-row-more (λ (n : ℕ). test) i (arcIn arcs))
+
+-- ---- the tests, from what was read
+
+module _ (g : Ground) where
+  pub stray-read : (jobs : Jobs) (i entry exit entry-job exit-job : ℕ) → entry ≡ place (jobs .entry) i → exit ≡ place (jobs .exit) i
+      → entry-job ≡ place (g .owner) entry → exit-job ≡ place (g .owner) exit
+      → not ((ltb entry (g .nodes) && eqb entry-job i) && (ltb exit (g .nodes) && eqb exit-job i)) ≡ stray (g .nodes) (place (g .owner)) i (jobIn jobs i)
+  stray-read jobs i entry exit entry-job exit-job p q r s =
+      let r' = r ∙ ap (place (g .owner)) p in
+      let s' = s ∙ ap (place (g .owner)) q in
+      λ k. not ((ltb (p k) (g .nodes) && eqb (r' k) i) && (ltb (q k) (g .nodes) && eqb (s' k) i))
+
+  module _ (arcs : Arcs) (i from : ℕ) (p : from ≡ place (arcs .from) i) where
+    pub apart-read : (to job other : ℕ) → to ≡ place (arcs .to) i → job ≡ place (g .owner) from → other ≡ place (g .owner) to
+        → not (ltb from (g .nodes) && (ltb to (g .nodes) && eqb job other)) ≡ apart (g .nodes) (place (g .owner)) (arcIn arcs i)
+    apart-read to job other q r s =
+        let r' = r ∙ ap (place (g .owner)) p in
+        let s' = s ∙ ap (place (g .owner)) q in
+        λ k. not (ltb (p k) (g .nodes) && (ltb (q k) (g .nodes) && eqb (r' k) (s' k)))
+
+    pub leaving-read : (job exit : ℕ) → job ≡ place (g .owner) from → exit ≡ place (g .exit) job
+        → eqb from exit ≡ leaving (place (g .owner)) (place (g .exit)) (arcIn arcs i)
+    leaving-read job exit r s =
+        let s' = s ∙ ap (place (g .exit)) (r ∙ ap (place (g .owner)) p) in
+        λ k. eqb (p k) (s' k)
+
+  pub unknown-read : (arcs : Arcs) (i label : ℕ) → label ≡ place (arcs .label) i → leb (g .channels) label ≡ unknown (g .channels) (arcIn arcs i)
+  unknown-read arcs i label p = ap (leb (g .channels)) p

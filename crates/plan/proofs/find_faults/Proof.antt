@@ -1,0 +1,127 @@
+-- `find_faults` passes the arcs in turn: which faults those passed have. Assumes nothing.
+use mathlib.Core.Path.{_≡_, sym, ap, _∙_}
+use mathlib.Core.Bool.{Bool, false}
+use Prim.Native.Nat.{ℕ, _-_, _≤_}
+use native.Mathlib.Omega.{arith}
+use Rattle.sections.specs.declared.Arcs.{Arcs}
+use Rattle.sections.specs.Plan.{Arc}
+use Rattle.sections.specs.Layout.{row}
+use Rattle.sections.specs.Tables.{place, arcIn}
+use Rattle.plan.specs.declared.Faults.{Faults}
+use Rattle.plan.specs.Checks.{any}
+use Rattle.plan.specs.Refusals.{apart as apart-test, leaving as leaving-test, unknown as unknown-test}
+use Rattle.plan.specs.Ground.{faultsOf}
+use Rattle.plan.proofs.Tests.{any-row-none}
+use Rattle.plan.proofs.Turns.{arc-turn, apart-read, leaving-read, unknown-read}
+use Rattle.plan.proofs.find_faults.Statement.{statement}
+use Rattle.plan.proofs.find_faults.Tie as tie
+
+abbrev Inv-loop : tie.InvT-loop
+Inv-loop g arcs count nodes channels apart₀ leaving₀ unknown₀ i₀ apart leaving unknown i =
+    (i ≤ count) × (apart ≡ any (apart-test (g .nodes) (place (g .owner))) (row i (arcIn arcs))) × (leaving ≡ any (leaving-test (place (g .owner)) (place (g .exit))) (row i (arcIn arcs))) × (unknown ≡ any (unknown-test (g .channels)) (row i (arcIn arcs)))
+
+abbrev μ-loop : tie.MeasureT-loop
+μ-loop g arcs count nodes channels apart₀ leaving₀ unknown₀ i₀ apart leaving unknown i = count - i
+
+-- no arc has been passed yet
+none : (test : Arc → Bool) (arcs : Arcs) → false ≡ any test (row 0 (arcIn arcs))
+none test arcs = sym (any-row-none (λ (k : ℕ). test) (arcIn arcs))
+
+loop-holds : tie.Need-loop-holds Inv-loop μ-loop
+loop-holds c =
+    let g = c .args .t1 in (
+      omega arith,
+      none (apart-test (g .nodes) (place (g .owner))) (c .args .t2),
+      none (leaving-test (place (g .owner)) (place (g .exit))) (c .args .t2),
+      none (unknown-test (g .channels)) (c .args .t2),
+    )
+
+element-copy-out-byte : tie.Need-element-copy-out-byte Inv-loop μ-loop
+element-copy-out-byte c = omega arith
+
+byte-requires : tie.Need-byte-requires Inv-loop μ-loop
+byte-requires c κs = tt
+
+element-copy-out-byte-2 : tie.Need-element-copy-out-byte-2 Inv-loop μ-loop
+element-copy-out-byte-2 c = omega arith
+
+byte-requires-2 : tie.Need-byte-requires-2 Inv-loop μ-loop
+byte-requires-2 c κs = tt
+
+element-copy-out-byte-3 : tie.Need-element-copy-out-byte-3 Inv-loop μ-loop
+element-copy-out-byte-3 c = omega arith
+
+byte-requires-3 : tie.Need-byte-requires-3 Inv-loop μ-loop
+byte-requires-3 c κs = tt
+
+element-copy-out-byte-4 : tie.Need-element-copy-out-byte-4 Inv-loop μ-loop
+element-copy-out-byte-4 c = c .before .before .before .before .byte .ensures .1
+
+byte-requires-4 : tie.Need-byte-requires-4 Inv-loop μ-loop
+byte-requires-4 c κs = tt
+
+element-copy-out-byte-5 : tie.Need-element-copy-out-byte-5 Inv-loop μ-loop
+element-copy-out-byte-5 c = c .before .before .before .before .byte2 .ensures .1
+
+byte-requires-5 : tie.Need-byte-requires-5 Inv-loop μ-loop
+byte-requires-5 c κs = tt
+
+element-copy-out-byte-6 : tie.Need-element-copy-out-byte-6 Inv-loop μ-loop
+element-copy-out-byte-6 c = rw (c .before .before .byte4 .ensures .0) (c .before .before .before .before .before .before .before .before .before .before .before .before .pre .1 _)
+
+byte-requires-6 : tie.Need-byte-requires-6 Inv-loop μ-loop
+byte-requires-6 c κs = tt
+
+add-i : tie.Need-add-i Inv-loop μ-loop
+add-i c = omega arith
+
+loop-less : tie.Need-loop-less Inv-loop μ-loop
+loop-less c = omega arith
+
+loop-again : tie.Need-loop-again Inv-loop μ-loop
+loop-again c =
+    let g = c .before .before .before .before .before .before .before .before .before .before .before .before .before .before .args .t1 in
+    let arcs = c .before .before .before .before .before .before .before .before .before .before .before .before .before .before .args .t2 in
+    let loop = c .before .before .before .before .before .before .before .before .before .before .before .before .before .loop in
+    let from = c .before .before .before .before .before .before .before .before .before .before .byte .ensures .0 in
+    let job = c .before .before .before .before .byte4 .ensures .0 in (
+      omega arith,
+      arc-turn (apart-test (g .nodes) (place (g .owner))) arcs (loop .i) (loop .apart) _ (loop .inv .1)
+          (apart-read g arcs (loop .i) _ from _ _ _ (c .before .before .before .before .before .before .before .before .byte2 .ensures .0) job (c .before .before .byte5 .ensures .0)),
+      arc-turn (leaving-test (place (g .owner)) (place (g .exit))) arcs (loop .i) (loop .leaving) _ (loop .inv .2)
+          (leaving-read g arcs (loop .i) _ from _ _ job (c .byte6 .ensures .0)),
+      arc-turn (unknown-test (g .channels)) arcs (loop .i) (loop .unknown) _ (loop .inv .3) (unknown-read g arcs (loop .i) _ (c .before .before .before .before .before .before .byte3 .ensures .0)),
+    )
+
+returns : tie.Need-returns Inv-loop μ-loop
+returns c =
+    let g = c .before .before .args .t1 in
+    let inv = c .before .loop .inv in
+    let e : c .before .loop .i ≡ c .before .before .args .t2 .count = omega arith in
+    let found : _≡_ {A = Faults} (record { apart = c .before .loop .apart; leaving = c .before .loop .leaving; unknown = c .before .loop .unknown }) (faultsOf g (row (c .before .loop .i) (arcIn (c .before .before .args .t2)))) =
+    λ k. record { apart = inv .1 k; leaving = inv .2 k; unknown = inv .3 k } in
+    found ∙ ap (λ (n : ℕ). faultsOf g (row n (arcIn (c .before .before .args .t2)))) e
+
+pub find-faults-spec : {M : Type 1} → statement M
+find-faults-spec =
+    tie.close
+    (tie.spec
+    Inv-loop
+    μ-loop
+    loop-holds
+    element-copy-out-byte
+    byte-requires
+    element-copy-out-byte-2
+    byte-requires-2
+    element-copy-out-byte-3
+    byte-requires-3
+    element-copy-out-byte-4
+    byte-requires-4
+    element-copy-out-byte-5
+    byte-requires-5
+    element-copy-out-byte-6
+    byte-requires-6
+    add-i
+    loop-less
+    loop-again
+    returns)

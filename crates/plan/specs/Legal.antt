@@ -1,0 +1,40 @@
+-- What an accepted plan is: refusals 2 to 9, read as what holds where none of them applies.
+use mathlib.Core.Path.{_≡_}
+use mathlib.Core.List.{List·Memᴰ}
+use Prim.Native.Nat.{ℕ, _≤_, _<_}
+use lib.ListN.{length}
+use Rattle.sections.specs.Plan.{Arc, Plan}
+use Rattle.sections.specs.Tables.{sizes}
+use Rattle.plan.specs.Nodes.{jobOf, entryOf, exitOf, total}
+use Rattle.plan.specs.Refusals.{arcs, links}
+
+-- n is a node of the job j
+pub record NodeOf (p : Plan) (j n : ℕ) : Type 0 where
+  pub node : n < p .nodes
+  pub owner : jobOf p n ≡ j
+
+-- the arc leads from a node of a job to one of the same job, and does not leave its exit
+pub record Inside (p : Plan) (a : Arc) : Type 0 where
+  pub from : a .from < p .nodes
+  pub to : NodeOf p (jobOf p (a .from)) (a .to)
+  pub stays : a .from ≡ exitOf p (jobOf p (a .from)) → ⊥
+
+pub record Legal (p : Plan) : Type 0 where
+  pub some-job : 1 ≤ length (p .jobs)
+  pub jobs : length (p .jobs) ≤ 16
+  pub some-node : 1 ≤ p .nodes
+  pub nodes : p .nodes ≤ 256
+  pub steps : length (p .steps) ≤ 256
+  pub channels : length (p .channels) ≤ 64
+  pub calls : length (p .calls) ≤ 128
+  pub accepts : length (p .accepts) ≤ 128
+  pub some-item : 1 ≤ p .items
+  pub items : p .items ≤ 64
+  pub sizes : total (sizes (p .jobs)) ≡ p .nodes
+  pub entry : (j : ℕ) → j < length (p .jobs) → NodeOf p j (entryOf p j)
+  pub exit : (j : ℕ) → j < length (p .jobs) → NodeOf p j (exitOf p j)
+  pub inside : (a : Arc) → List·Memᴰ a (arcs p) → Inside p a
+  pub channel : (a : Arc) → List·Memᴰ a (links p) → a .label < length (p .channels)
+  -- events are numbers of 5 bits
+  pub event : (a : Arc) → List·Memᴰ a (p .steps) → a .label < 32
+  pub channel-event : (e : ℕ) → List·Memᴰ e (p .channels) → e < 32
