@@ -17,12 +17,12 @@ use Rattle.sections.specs.Tables.{padded, place, sizes, exits, decodedOf, planI
 use Rattle.sections.proofs.Rows.{row-length}
 use Rattle.sections.proofs.Kept.{padded-places, plan-kept}
 use Rattle.plan.specs.declared.Outcome.the-variants.{Accepted, Refused}
-use Rattle.plan.specs.declared.Ground.{Ground}
+use Rattle.plan.specs.declared.Bounds.{Bounds}
 use Rattle.plan.specs.declared.Faults.{Faults}
 use Rattle.plan.specs.Checks.{Check, orElse, first, any, anyNumbered}
 use Rattle.plan.specs.Nodes.{owners, jobOf, exitOf, total}
-use Rattle.plan.specs.Refusals.{sizesWrong, stray, apart, leaving, unknown, arcs, links, framing, ends, shape, order}
-use Rattle.plan.specs.Ground.{OwnersBelow, faultsOf, groundOf, Tabled}
+use Rattle.plan.specs.Refusals.{sizesWrong, wrongSizes, stray, strayEnds, apart, splitEnds, leaving, exitLeft, unknown, noChannel, arcs, links, framing, ends, shape, order}
+use Rattle.plan.specs.Bounds.{OwnersBelow, faultsOf, boundsOf, Tabled}
 use Rattle.plan.specs.Reading.{outcomeOf, answered, readingOf}
 use Rattle.plan.proofs.Tests.{or-none, first-append, first-said, any-both}
 use Rattle.plan.proofs.Nodes.{owners-below}
@@ -31,34 +31,34 @@ use Rattle.plan.proofs.Ranges.{Framed}
 -- ---- refusals 5 to 9
 
 module _ (p : Plan) where
-  pub shape-5 : sizesWrong (p .nodes) (p .jobs) ≡ true → first shape p ≡ some 5
+  pub shape-5 : wrongSizes p ≡ true → first shape p ≡ some 5
   unfolding first
   shape-5 e = rw e
 
-  pub shape-past : sizesWrong (p .nodes) (p .jobs) ≡ false → first shape p ≡ first ends p
+  pub shape-past : wrongSizes p ≡ false → first shape p ≡ first ends p
   unfolding first
   shape-past e = rw e
 
-  pub ends-6 : anyNumbered (stray (p .nodes) (jobOf p)) (p .jobs) ≡ true → first ends p ≡ some 6
+  pub ends-6 : strayEnds p ≡ true → first ends p ≡ some 6
   unfolding first
   ends-6 e = rw e
 
-  module _ (kept : anyNumbered (stray (p .nodes) (jobOf p)) (p .jobs) ≡ false) where
-    pub ends-7 : any (apart (p .nodes) (jobOf p)) (arcs p) ≡ true → first ends p ≡ some 7
+  module _ (kept : strayEnds p ≡ false) where
+    pub ends-7 : splitEnds p ≡ true → first ends p ≡ some 7
     unfolding first
     ends-7 e = rw (kept, e)
 
-    module _ (joined : any (apart (p .nodes) (jobOf p)) (arcs p) ≡ false) where
-      pub ends-8 : any (leaving (jobOf p) (exitOf p)) (arcs p) ≡ true → first ends p ≡ some 8
+    module _ (joined : splitEnds p ≡ false) where
+      pub ends-8 : exitLeft p ≡ true → first ends p ≡ some 8
       unfolding first
       ends-8 e = rw (kept, joined, e)
 
-      module _ (staying : any (leaving (jobOf p) (exitOf p)) (arcs p) ≡ false) where
-        pub ends-9 : any (unknown (length (p .channels))) (links p) ≡ true → first ends p ≡ some 9
+      module _ (staying : exitLeft p ≡ false) where
+        pub ends-9 : noChannel p ≡ true → first ends p ≡ some 9
         unfolding first
         ends-9 e = rw (kept, joined, staying, e)
 
-        pub ends-none : any (unknown (length (p .channels))) (links p) ≡ false → first ends p ≡ none
+        pub ends-none : noChannel p ≡ false → first ends p ≡ none
         unfolding first
         ends-none e = rw (kept, joined, staying, e)
 
@@ -103,14 +103,14 @@ outcome-accepted (some m) e = cc
 any-arcs : (p : Plan) (test : Arc → Bool) → (any test (p .steps) || (any test (p .calls) || any test (p .accepts))) ≡ any test (arcs p)
 any-arcs p test = sym (any-both test (p .steps) (links p) ∙ ap (λ (b : Bool). any test (p .steps) || b) (any-both test (p .calls) (p .accepts)))
 
-module _ (p : Plan) (g : Ground) (e : g ≡ groundOf p) where
+module _ (p : Plan) (g : Bounds) (e : g ≡ boundsOf p) where
   job-on : place (g .owner) ≡ jobOf p
-  job-on = ap (λ (x : Ground). place (x .owner)) e ∙ padded-places 256 (owners (p .jobs))
+  job-on = ap (λ (x : Bounds). place (x .owner)) e ∙ padded-places 256 (owners (p .jobs))
 
   exit-on : place (g .exit) ≡ exitOf p
-  exit-on = ap (λ (x : Ground). place (x .exit)) e ∙ padded-places 16 (exits (p .jobs))
+  exit-on = ap (λ (x : Bounds). place (x .exit)) e ∙ padded-places 16 (exits (p .jobs))
 
-  pub stray-on : anyNumbered (stray (g .nodes) (place (g .owner))) (p .jobs) ≡ anyNumbered (stray (p .nodes) (jobOf p)) (p .jobs)
+  pub stray-on : anyNumbered (stray (g .nodes) (place (g .owner))) (p .jobs) ≡ strayEnds p
   stray-on = λ i. anyNumbered (stray (e i .nodes) (job-on i)) (p .jobs)
 
   -- each node's job is one of the jobs
@@ -119,29 +119,29 @@ module _ (p : Plan) (g : Ground) (e : g ≡ groundOf p) where
 
   -- of the faults of the three sections
   module _ (s c a : Faults) (es : s ≡ faultsOf g (p .steps)) (ec : c ≡ faultsOf g (p .calls)) (ea : a ≡ faultsOf g (p .accepts)) where
-    pub apart-on : (s .apart || (c .apart || a .apart)) ≡ any (apart (p .nodes) (jobOf p)) (arcs p)
+    pub apart-on : (s .apart || (c .apart || a .apart)) ≡ splitEnds p
     apart-on =
         let parts : (s .apart || (c .apart || a .apart)) ≡ (any (apart (g .nodes) (place (g .owner))) (p .steps) || (any (apart (g .nodes) (place (g .owner))) (p .calls) || any (apart (g .nodes) (place (g .owner))) (p .accepts))) =
         λ i. es i .apart || (ec i .apart || ea i .apart) in
         parts ∙ any-arcs p (apart (g .nodes) (place (g .owner))) ∙ (λ i. any (apart (e i .nodes) (job-on i)) (arcs p))
 
-    pub leaving-on : (s .leaving || (c .leaving || a .leaving)) ≡ any (leaving (jobOf p) (exitOf p)) (arcs p)
+    pub leaving-on : (s .leaving || (c .leaving || a .leaving)) ≡ exitLeft p
     leaving-on =
         let parts : (s .leaving || (c .leaving || a .leaving)) ≡ (any (leaving (place (g .owner)) (place (g .exit))) (p .steps) || (any (leaving (place (g .owner)) (place (g .exit))) (p .calls) || any (leaving (place (g .owner)) (place (g .exit))) (p .accepts))) =
         λ i. es i .leaving || (ec i .leaving || ea i .leaving) in
         parts ∙ any-arcs p (leaving (place (g .owner)) (place (g .exit))) ∙ (λ i. any (leaving (job-on i) (exit-on i)) (arcs p))
 
-    pub unknown-on : (c .unknown || a .unknown) ≡ any (unknown (length (p .channels))) (links p)
+    pub unknown-on : (c .unknown || a .unknown) ≡ noChannel p
     unknown-on =
         let parts : (c .unknown || a .unknown) ≡ (any (unknown (g .channels)) (p .calls) || any (unknown (g .channels)) (p .accepts)) = λ i. ec i .unknown || ea i .unknown in
         parts ∙ sym (any-both (unknown (g .channels)) (p .calls) (p .accepts)) ∙ (λ i. any (unknown (e i .channels)) (links p))
 
 -- the arrays, from the tables
-abbrev pub groundIn : Decoded → List ℕ → Ground
-groundIn d owner = record { nodes = d .nodes; owner = owner; exit = d .jobs .exit; channels = d .channels .count }
+abbrev pub boundsIn : Decoded → List ℕ → Bounds
+boundsIn d owner = record { nodes = d .nodes; owner = owner; exit = d .jobs .exit; channels = d .channels .count }
 
-pub grounded : (d : Decoded) (owner : List ℕ) → Tabled d → owner ≡ padded 256 (owners (planIn d .jobs)) → groundIn d owner ≡ groundOf (planIn d)
-grounded d owner t e =
+pub bounds-kept : (d : Decoded) (owner : List ℕ) → Tabled d → owner ≡ padded 256 (owners (planIn d .jobs)) → boundsIn d owner ≡ boundsOf (planIn d)
+bounds-kept d owner t e =
     let exit = ap (λ (x : Decoded). x .jobs .exit) (t .kept) in
     let channels = ap (λ (x : Decoded). x .channels .count) (t .kept) in
     λ i. record { nodes = d .nodes; owner = e i; exit = exit i; channels = channels i }

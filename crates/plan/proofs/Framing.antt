@@ -4,9 +4,8 @@ use mathlib.Core.Bool.{true, false}
 use mathlib.Core.Option.{none, some}
 use mathlib.Core.List.{List}
 use Prim.Native.Nat.{ℕ}
-use Rattle.sections.specs.Layout.{headOf}
 use Rattle.plan.specs.Checks.{first}
-use Rattle.plan.specs.Refusals.{tooShort, countsOutside, cutShort, filled, framing}
+use Rattle.plan.specs.Refusals.{tooShort, countsWrong, cutShort, filled, framing}
 
 module _ (b : List ℕ) where
   pub framing-1 : tooShort b ≡ true → first framing b ≡ some 1
@@ -14,11 +13,11 @@ module _ (b : List ℕ) where
   framing-1 e = rw e
 
   module _ (long : tooShort b ≡ false) where
-    pub framing-2 : countsOutside (headOf b) ≡ true → first framing b ≡ some 2
+    pub framing-2 : countsWrong b ≡ true → first framing b ≡ some 2
     unfolding first
     framing-2 e = rw (long, e)
 
-    module _ (counted : countsOutside (headOf b) ≡ false) where
+    module _ (counted : countsWrong b ≡ false) where
       pub framing-3 : cutShort b ≡ true → first framing b ≡ some 3
       unfolding first
       framing-3 e = rw (long, counted, e)

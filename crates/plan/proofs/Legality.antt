@@ -15,9 +15,9 @@ use Rattle.fields.proofs.Laws.{field-lt}
 use Rattle.sections.specs.Plan.{Job, Arc, Plan}
 use Rattle.sections.specs.Layout.{row, headOf, stepsAt, channelsAt, planOf}
 use Rattle.sections.proofs.Rows.{row-length}
-use Rattle.plan.specs.Checks.{first, anyFrom, any, anyNumbered}
+use Rattle.plan.specs.Checks.{first, anyFrom}
 use Rattle.plan.specs.Nodes.{jobOf, entryOf, exitOf, isNode}
-use Rattle.plan.specs.Refusals.{sizesWrong, stray, apart, leaving, unknown, arcs, links, ends, shape, order}
+use Rattle.plan.specs.Refusals.{wrongSizes, stray, strayEnds, apart, splitEnds, leaving, exitLeft, unknown, noChannel, arcs, links, ends, shape, order}
 use Rattle.plan.specs.Legal.{NodeOf, Inside, Legal}
 use Rattle.plan.proofs.Tests.{or-none, first-none}
 use Rattle.plan.proofs.Ranges.{Framed, framed}
@@ -78,19 +78,19 @@ noJob = record { size = 0; entry = 0; exit = 0 }
 
 -- where none of refusals 5 to 9 applies
 record Shaped (p : Plan) : Type 0 where
-  sizes : sizesWrong (p .nodes) (p .jobs) ≡ false
-  ends : anyNumbered (stray (p .nodes) (jobOf p)) (p .jobs) ≡ false
-  joined : any (apart (p .nodes) (jobOf p)) (arcs p) ≡ false
-  staying : any (leaving (jobOf p) (exitOf p)) (arcs p) ≡ false
-  known : any (unknown (length (p .channels))) (links p) ≡ false
+  sizes : wrongSizes p ≡ false
+  ends : strayEnds p ≡ false
+  joined : splitEnds p ≡ false
+  staying : exitLeft p ≡ false
+  known : noChannel p ≡ false
 
 shaped : (p : Plan) → first shape p ≡ none → Shaped p
 shaped p e =
-    let five = first-none 5 (λ (q : Plan). sizesWrong (q .nodes) (q .jobs)) ends p e in
-    let six = first-none 6 (λ (q : Plan). anyNumbered (stray (q .nodes) (jobOf q)) (q .jobs)) _ p (five .1) in
-    let seven = first-none 7 (λ (q : Plan). any (apart (q .nodes) (jobOf q)) (arcs q)) _ p (six .1) in
-    let eight = first-none 8 (λ (q : Plan). any (leaving (jobOf q) (exitOf q)) (arcs q)) _ p (seven .1) in
-    let nine = first-none 9 (λ (q : Plan). any (unknown (length (q .channels))) (links q)) _ p (eight .1) in
+    let five = first-none 5 wrongSizes ends p e in
+    let six = first-none 6 strayEnds _ p (five .1) in
+    let seven = first-none 7 splitEnds _ p (six .1) in
+    let eight = first-none 8 exitLeft _ p (seven .1) in
+    let nine = first-none 9 noChannel _ p (eight .1) in
     record { sizes = five .0; ends = six .0; joined = seven .0; staying = eight .0; known = nine .0 }
 
 -- the entry and the exit of a job are nodes of it

@@ -10,7 +10,7 @@ use lib.ListN.{length}
 use Rattle.sections.specs.declared.Head.{Head}
 use Rattle.sections.specs.Layout.{headOf, patternAt, Readable}
 use Rattle.plan.specs.Checks.{first}
-use Rattle.plan.specs.Refusals.{outside, countsOutside, tooShort, cutShort, framing}
+use Rattle.plan.specs.Refusals.{outside, countsOutside, countsWrong, tooShort, cutShort, framing}
 use Rattle.plan.proofs.Tests.{or-none, first-none}
 
 -- each count is within its range
@@ -63,7 +63,7 @@ pub record Framed (b : List ℕ) : Type 0 where
 pub framed : (b : List ℕ) → first framing b ≡ none → Framed b
 framed b e =
     let p = first-none 1 tooShort _ b e in
-    let q = first-none 2 (λ (x : List ℕ). countsOutside (headOf x)) _ b (p .1) in
+    let q = first-none 2 countsWrong _ b (p .1) in
     let r = first-none 3 cutShort _ b (q .1) in
     record { long = ltb-false _ _ (p .0); counts = ranged (headOf b) (q .0); sections = ltb-false _ _ (r .0) }
 

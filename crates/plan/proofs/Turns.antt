@@ -8,7 +8,7 @@ use Rattle.sections.specs.declared.Arcs.{Arcs}
 use Rattle.sections.specs.Plan.{Job, Arc}
 use Rattle.sections.specs.Layout.{row}
 use Rattle.sections.specs.Tables.{place, jobIn, arcIn}
-use Rattle.plan.specs.declared.Ground.{Ground}
+use Rattle.plan.specs.declared.Bounds.{Bounds}
 use Rattle.plan.specs.Checks.{any, anyNumbered}
 use Rattle.plan.specs.Refusals.{stray, apart, leaving, unknown}
 use Rattle.plan.proofs.Tests.{any-row-more}
@@ -27,7 +27,7 @@ module _ (test : Arc → Bool) (arcs : Arcs) (i : ℕ) where
 
 -- ---- the tests, from what was read
 
-module _ (g : Ground) where
+module _ (g : Bounds) where
   pub stray-read : (jobs : Jobs) (i entry exit entry-job exit-job : ℕ) → entry ≡ place (jobs .entry) i → exit ≡ place (jobs .exit) i
       → entry-job ≡ place (g .owner) entry → exit-job ≡ place (g .owner) exit
       → not ((ltb entry (g .nodes) && eqb entry-job i) && (ltb exit (g .nodes) && eqb exit-job i)) ≡ stray (g .nodes) (place (g .owner)) i (jobIn jobs i)

@@ -2,6 +2,6 @@
 pub mod Checks
 pub mod Nodes
 pub mod Refusals
-pub mod Ground
+pub mod Bounds
 pub mod Legal
 pub mod Reading

@@ -27,6 +27,9 @@ countsOutside h =
     || (outside 0 256 (h .steps)
     || (outside 0 128 (h .calls) || (outside 0 128 (h .accepts) || (outside 0 64 (h .channels) || outside 1 64 (h .items))))))
 
+abbrev pub countsWrong : List ℕ → Bool
+countsWrong b = countsOutside (headOf b)
+
 -- 3. "The plan is shorter than its sections before the pattern."
 abbrev pub cutShort : List ℕ → Bool
 cutShort b = ltb (length b) (patternAt (headOf b))
@@ -39,45 +42,56 @@ filled b = not (eqb (fieldAt b (endAt (headOf b)) (8 * patternAt (headOf b) - en
 abbrev pub sizesWrong : ℕ → List Job → Bool
 sizesWrong nodes jobs = any (λ (b : Job). eqb (b .size) 0) jobs || not (eqb (total (sizes jobs)) nodes)
 
+abbrev pub wrongSizes : Plan → Bool
+wrongSizes p = sizesWrong (p .nodes) (p .jobs)
+
 -- 6. "An entry or exit is not a node of its job."
 abbrev pub stray : ℕ → (ℕ → ℕ) → ℕ → Job → Bool
 stray nodes job j b = not (isNode nodes job j (b .entry) && isNode nodes job j (b .exit))
 
--- 7. "A step's two ends are not nodes of one and the same job."
-abbrev pub apart : ℕ → (ℕ → ℕ) → Arc → Bool
-apart nodes job a = not (ltb (a .from) nodes && (ltb (a .to) nodes && eqb (job (a .from)) (job (a .to))))
+abbrev pub strayEnds : Plan → Bool
+strayEnds p = anyNumbered (stray (p .nodes) (jobOf p)) (p .jobs)
 
--- 8. "A step leaves the exit of its job."
-abbrev pub leaving : (ℕ → ℕ) → (ℕ → ℕ) → Arc → Bool
-leaving job exit a = eqb (a .from) (exit (job (a .from)))
-
--- 9. "A call or accept names a channel not below the number of channels."
-abbrev pub unknown : ℕ → Arc → Bool
-unknown channels a = leb channels (a .label)
-
--- "7 to 9 each over all local steps, calls and accepts"
+-- "7 to 9 each over all local steps, calls and accepts"; 9 speaks of calls and accepts alone
 abbrev pub links : Plan → List Arc
 links p = p .calls ++ p .accepts
 
 abbrev pub arcs : Plan → List Arc
 arcs p = p .steps ++ links p
 
+-- 7. "A step's two ends are not nodes of one and the same job."
+abbrev pub apart : ℕ → (ℕ → ℕ) → Arc → Bool
+apart nodes job a = not (ltb (a .from) nodes && (ltb (a .to) nodes && eqb (job (a .from)) (job (a .to))))
+
+abbrev pub splitEnds : Plan → Bool
+splitEnds p = any (apart (p .nodes) (jobOf p)) (arcs p)
+
+-- 8. "A step leaves the exit of its job."
+abbrev pub leaving : (ℕ → ℕ) → (ℕ → ℕ) → Arc → Bool
+leaving job exit a = eqb (a .from) (exit (job (a .from)))
+
+abbrev pub exitLeft : Plan → Bool
+exitLeft p = any (leaving (jobOf p) (exitOf p)) (arcs p)
+
+-- 9. "A call or accept names a channel not below the number of channels."
+abbrev pub unknown : ℕ → Arc → Bool
+unknown channels a = leb channels (a .label)
+
+abbrev pub noChannel : Plan → Bool
+noChannel p = any (unknown (length (p .channels))) (links p)
+
 -- ---- the order
 
 -- the checks of the bytes
 abbrev pub framing : List (Check (List ℕ))
-framing = refuse 1 tooShort ∷ refuse 2 (λ (b : List ℕ). countsOutside (headOf b)) ∷ refuse 3 cutShort ∷ refuse 4 filled ∷ []
+framing = refuse 1 tooShort ∷ refuse 2 countsWrong ∷ refuse 3 cutShort ∷ refuse 4 filled ∷ []
 
--- the checks of what the plan says, once its sizes are right
+-- the checks of what the plan says, and those of them that ask for the job of a node
 abbrev pub ends : List (Check Plan)
-ends =
-    refuse 6 (λ (p : Plan). anyNumbered (stray (p .nodes) (jobOf p)) (p .jobs))
-    ∷ refuse 7 (λ (p : Plan). any (apart (p .nodes) (jobOf p)) (arcs p))
-    ∷ refuse 8 (λ (p : Plan). any (leaving (jobOf p) (exitOf p)) (arcs p))
-    ∷ refuse 9 (λ (p : Plan). any (unknown (length (p .channels))) (links p)) ∷ []
+ends = refuse 6 strayEnds ∷ refuse 7 splitEnds ∷ refuse 8 exitLeft ∷ refuse 9 noChannel ∷ []
 
 abbrev pub shape : List (Check Plan)
-shape = refuse 5 (λ (p : Plan). sizesWrong (p .nodes) (p .jobs)) ∷ ends
+shape = refuse 5 wrongSizes ∷ ends
 
 -- "Checked in this order": all checks before the pattern
 abbrev pub order : List (Check (List ℕ))

@@ -11,7 +11,7 @@ ghost use lib.ListN.{take, replicate};
 ghost use Rattle.sections.specs.Tables.{padded, place, sizes, jobsIn, arcsIn, planIn};
 ghost use Rattle.plan.specs.Checks.{first, anyNumbered};
 ghost use Rattle.plan.specs.Nodes.{owners, total};
-ghost use Rattle.plan.specs.Ground.{OwnersBelow, faultsOf, Tabled};
+ghost use Rattle.plan.specs.Bounds.{OwnersBelow, faultsOf, Tabled};
 ghost use Rattle.plan.specs.Refusals.{outside, countsOutside, sizesWrong, stray, framing, ends, shape};
 ghost use Rattle.plan.specs.Reading.{outcomeOf, ownerTable, refused, answered, readingOf};
 ghost use Rattle.sections.specs.Layout.{planOf};
@@ -72,6 +72,7 @@ fn framed(plan: &[u8]) -> Outcome
     Outcome::Accepted
 }
 
+// A size, and a node's number, as numbers to reckon with: the contract has the range.
 fn wide(size: u16) -> usize
     ensures { λ r. ⌜ (r ≡ size) × (r < 65536) ⌝ }
 {
@@ -90,16 +91,16 @@ fn sizes_wrong(nodes: usize, jobs: Jobs) -> bool
     ensures { λ r. ⌜ r ≡ sizesWrong nodes (jobsIn jobs) ⌝ }
 {
     let count = jobs.count;
-    let mut none = false;
+    let mut empty = false;
     let mut sum: usize = 0;
     let mut i: usize = 0;
     while i < count {
         let size = wide(jobs.size[i]);
-        none = none | (size == 0);
+        empty = empty | (size == 0);
         sum += size;
         i += 1;
     }
-    none | (sum != nodes)
+    empty | (sum != nodes)
 }
 
 // The jobs of the first `nodes` nodes.
@@ -144,7 +145,7 @@ fn owners_of(jobs: Jobs) -> Owners
 }
 
 // What the tests of entries, exits and arcs go by.
-struct Ground {
+struct Bounds {
     nodes: usize,
     owner: [u8; 256],
     exit: [u8; 16],
@@ -152,7 +153,7 @@ struct Ground {
 }
 
 // Refusal 6.
-fn any_stray(g: Ground, jobs: Jobs) -> bool
+fn any_stray(g: Bounds, jobs: Jobs) -> bool
     requires { ⌜ jobs .count ≤ 16 ⌝ }
     ensures { λ r. ⌜ r ≡ anyNumbered (stray (g .nodes) (place (g .owner))) (jobsIn jobs) ⌝ }
 {
@@ -179,7 +180,8 @@ struct Faults {
     unknown: bool,
 }
 
-fn find_faults(g: Ground, arcs: Arcs) -> Faults
+// One pass over a section.
+fn find_faults(g: Bounds, arcs: Arcs) -> Faults
     requires { ⌜ (arcs .count ≤ 256) × OwnersBelow 16 (g .owner) ⌝ }
     ensures { λ r. ⌜ r ≡ faultsOf g (arcsIn arcs) ⌝ }
 {
@@ -217,7 +219,7 @@ fn bounded(d: Decoded, owner: [u8; 256]) -> Outcome
     let jobs = d.jobs;
     let exit = jobs.exit;
     let channels = d.channels;
-    let g = Ground {
+    let g = Bounds {
         nodes: d.nodes,
         owner: owner,
         exit: exit,
@@ -244,6 +246,7 @@ fn bounded(d: Decoded, owner: [u8; 256]) -> Outcome
     Outcome::Accepted
 }
 
+// A refusal: its number, and nothing else.
 fn turned_down(n: u32) -> Reading
     ensures { λ r. ⌜ r ≡ refused n ⌝ }
 {

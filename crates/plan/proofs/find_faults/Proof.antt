@@ -10,7 +10,7 @@ use Rattle.sections.specs.Tables.{place, arcIn}
 use Rattle.plan.specs.declared.Faults.{Faults}
 use Rattle.plan.specs.Checks.{any}
 use Rattle.plan.specs.Refusals.{apart as apart-test, leaving as leaving-test, unknown as unknown-test}
-use Rattle.plan.specs.Ground.{faultsOf}
+use Rattle.plan.specs.Bounds.{faultsOf}
 use Rattle.plan.proofs.Tests.{any-row-none}
 use Rattle.plan.proofs.Turns.{arc-turn, apart-read, leaving-read, unknown-read}
 use Rattle.plan.proofs.find_faults.Statement.{statement}

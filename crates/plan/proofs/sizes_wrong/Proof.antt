@@ -20,10 +20,10 @@ abbrev zero-size : ℕ → Job → Bool
 zero-size k b = eqb (b .size) 0
 
 abbrev Inv-loop : tie.InvT-loop
-Inv-loop nodes jobs count none₀ sum₀ i₀ none sum i = (i ≤ count) × (none ≡ any (λ (b : Job). eqb (b .size) 0) (row i (jobIn jobs))) × (sum ≡ total (sizes (row i (jobIn jobs)))) × (sum ≤ 65535 * i)
+Inv-loop nodes jobs count empty₀ sum₀ i₀ empty sum i = (i ≤ count) × (empty ≡ any (λ (b : Job). eqb (b .size) 0) (row i (jobIn jobs))) × (sum ≡ total (sizes (row i (jobIn jobs)))) × (sum ≤ 65535 * i)
 
 abbrev μ-loop : tie.MeasureT-loop
-μ-loop nodes jobs count none₀ sum₀ i₀ none sum i = count - i
+μ-loop nodes jobs count empty₀ sum₀ i₀ empty sum i = count - i
 
 loop-holds : tie.Need-loop-holds Inv-loop μ-loop
 loop-holds c = (omega arith, sym (any-row-none zero-size (jobIn (c .args .t2))), sym (total-none (jobIn (c .args .t2))), omega arith)
@@ -53,7 +53,7 @@ loop-again c =
     let w = c .wide .ensures in
     let more = total-more (jobIn jobs) (loop .i) in (
       omega arith,
-      job-turn zero-size jobs (loop .i) (loop .none) _ (loop .inv .1) (ap (λ (n : ℕ). eqb n 0) (w .0)),
+      job-turn zero-size jobs (loop .i) (loop .empty) _ (loop .inv .1) (ap (λ (n : ℕ). eqb n 0) (w .0)),
       omega (arith, loop .inv .2, w .0),
       omega (arith, loop .inv .3, w .1),
     )
@@ -63,7 +63,7 @@ returns c =
     let args = c .before .before .args in
     let inv = c .before .loop .inv in
     let e : c .before .loop .i ≡ c .before .before .args .t2 .count = omega arith in
-    let found : (c .before .loop .none || not (eqb (c .before .loop .sum) (args .nodes))) ≡ sizesWrong (args .nodes) (row (c .before .loop .i) (jobIn (args .t2))) =
+    let found : (c .before .loop .empty || not (eqb (c .before .loop .sum) (args .nodes))) ≡ sizesWrong (args .nodes) (row (c .before .loop .i) (jobIn (args .t2))) =
     λ k. inv .1 k || not (eqb (inv .2 k) (args .nodes)) in
     found ∙ ap (λ (n : ℕ). sizesWrong (args .nodes) (row n (jobIn (args .t2)))) e
 

@@ -6,14 +6,14 @@ use lib.ListN.{length}
 use Rattle.sections.specs.Plan.{Arc, Plan}
 use Rattle.sections.specs.declared.Decoded.{Decoded}
 use Rattle.sections.specs.Tables.{padded, place, exits, decodedOf, planIn}
-use Rattle.plan.specs.declared.Ground.{Ground}
+use Rattle.plan.specs.declared.Bounds.{Bounds}
 use Rattle.plan.specs.declared.Faults.{Faults}
 use Rattle.plan.specs.Checks.{any}
 use Rattle.plan.specs.Nodes.{owners}
 use Rattle.plan.specs.Refusals.{apart, leaving, unknown}
 
-abbrev pub groundOf : Plan → Ground
-groundOf p = record {
+abbrev pub boundsOf : Plan → Bounds
+boundsOf p = record {
   nodes = p .nodes;
   owner = padded 256 (owners (p .jobs));
   exit = padded 16 (exits (p .jobs));
@@ -25,7 +25,7 @@ abbrev pub OwnersBelow : ℕ → List ℕ → Type 0
 OwnersBelow n owner = (i : ℕ) → place owner i < n
 
 -- which faults the arcs of a section have
-abbrev pub faultsOf : Ground → List Arc → Faults
+abbrev pub faultsOf : Bounds → List Arc → Faults
 faultsOf g l = record {
   apart = any (apart (g .nodes) (place (g .owner))) l;
   leaving = any (leaving (place (g .owner)) (place (g .exit))) l;
