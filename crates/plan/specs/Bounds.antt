@@ -1,4 +1,5 @@
--- What the reader's tests of entries, exits and arcs go by: arrays that stand for the job of a node and the exit of a job.
+-- What the tests of entries, exits and arcs go by inside the reader: arrays that stand for the job of a node and the exit of a
+-- job. No public promise speaks of them.
 use mathlib.Core.Path.{_≡_}
 use Prim.Native.Nat.{ℕ, _<_, _≤_}
 use mathlib.Core.List.{List}
