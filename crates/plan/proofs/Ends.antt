@@ -3,7 +3,7 @@
 use mathlib.Core.Path.{_≡_, refl, sym, ap, _∙_, subst}
 use mathlib.Core.Bool.{Bool, true, false, _||_}
 use mathlib.Core.Option.{Option, none, some}
-use mathlib.Core.List.{List, map}
+use mathlib.Core.List.{List, _++_, map}
 use Prim.Native.Nat.{ℕ, _≤_, _<_}
 use native.Mathlib.Omega.{arith}
 use borrow.Author.Tests.{eqb-true, not-false}
@@ -100,8 +100,18 @@ outcome-accepted (some m) e = cc
 
 -- ---- the tests by the arrays are the tests of the plan
 
-any-arcs : (p : Plan) (test : Arc → Bool) → (any test (p .steps) || (any test (p .calls) || any test (p .accepts))) ≡ any test (arcs p)
-any-arcs p test = sym (any-both test (p .steps) (links p) ∙ ap (λ (b : Bool). any test (p .steps) || b) (any-both test (p .calls) (p .accepts)))
+-- a test of two lists, and so of calls and accepts, and of all three sections
+any-joined : (test : Arc → Bool) (xs ys : List Arc) (x y : Bool) → x ≡ any test xs → y ≡ any test ys → (x || y) ≡ any test (xs ++ ys)
+any-joined test xs ys x y ex ey =
+    let parts : (x || y) ≡ (any test xs || any test ys) = λ i. ex i || ey i in
+    parts ∙ sym (any-both test xs ys)
+
+module _ (p : Plan) (test : Arc → Bool) (s c a : Bool) (es : s ≡ any test (p .steps)) (ec : c ≡ any test (p .calls)) (ea : a ≡ any test (p .accepts)) where
+  any-links : (c || a) ≡ any test (links p)
+  any-links = any-joined test (p .calls) (p .accepts) c a ec ea
+
+  any-arcs : (s || (c || a)) ≡ any test (arcs p)
+  any-arcs = any-joined test (p .steps) (links p) s (c || a) es any-links
 
 module _ (p : Plan) (g : Bounds) (e : g ≡ boundsOf p) where
   job-on : place (g .owner) ≡ jobOf p
@@ -121,20 +131,18 @@ module _ (p : Plan) (g : Bounds) (e : g ≡ boundsOf p) where
   module _ (s c a : Faults) (es : s ≡ faultsOf g (p .steps)) (ec : c ≡ faultsOf g (p .calls)) (ea : a ≡ faultsOf g (p .accepts)) where
     pub apart-on : (s .apart || (c .apart || a .apart)) ≡ splitEnds p
     apart-on =
-        let parts : (s .apart || (c .apart || a .apart)) ≡ (any (apart (g .nodes) (place (g .owner))) (p .steps) || (any (apart (g .nodes) (place (g .owner))) (p .calls) || any (apart (g .nodes) (place (g .owner))) (p .accepts))) =
-        λ i. es i .apart || (ec i .apart || ea i .apart) in
-        parts ∙ any-arcs p (apart (g .nodes) (place (g .owner))) ∙ (λ i. any (apart (e i .nodes) (job-on i)) (arcs p))
+        any-arcs p (apart (g .nodes) (place (g .owner))) (s .apart) (c .apart) (a .apart) (λ i. es i .apart) (λ i. ec i .apart) (λ i. ea i .apart)
+        ∙ (λ i. any (apart (e i .nodes) (job-on i)) (arcs p))
 
     pub leaving-on : (s .leaving || (c .leaving || a .leaving)) ≡ exitLeft p
     leaving-on =
-        let parts : (s .leaving || (c .leaving || a .leaving)) ≡ (any (leaving (place (g .owner)) (place (g .exit))) (p .steps) || (any (leaving (place (g .owner)) (place (g .exit))) (p .calls) || any (leaving (place (g .owner)) (place (g .exit))) (p .accepts))) =
-        λ i. es i .leaving || (ec i .leaving || ea i .leaving) in
-        parts ∙ any-arcs p (leaving (place (g .owner)) (place (g .exit))) ∙ (λ i. any (leaving (job-on i) (exit-on i)) (arcs p))
+        any-arcs p (leaving (place (g .owner)) (place (g .exit))) (s .leaving) (c .leaving) (a .leaving) (λ i. es i .leaving) (λ i. ec i .leaving) (λ i. ea i .leaving)
+        ∙ (λ i. any (leaving (job-on i) (exit-on i)) (arcs p))
 
     pub unknown-on : (c .unknown || a .unknown) ≡ noChannel p
     unknown-on =
-        let parts : (c .unknown || a .unknown) ≡ (any (unknown (g .channels)) (p .calls) || any (unknown (g .channels)) (p .accepts)) = λ i. ec i .unknown || ea i .unknown in
-        parts ∙ sym (any-both (unknown (g .channels)) (p .calls) (p .accepts)) ∙ (λ i. any (unknown (e i .channels)) (links p))
+        any-links p (unknown (g .channels)) (s .unknown) (c .unknown) (a .unknown) (λ i. es i .unknown) (λ i. ec i .unknown) (λ i. ea i .unknown)
+        ∙ (λ i. any (unknown (e i .channels)) (links p))
 
 -- the arrays, from the tables
 abbrev pub boundsIn : Decoded → List ℕ → Bounds

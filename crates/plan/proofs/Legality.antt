@@ -15,6 +15,7 @@ use Rattle.fields.proofs.Laws.{field-lt}
 use Rattle.sections.specs.Plan.{Job, Arc, Plan}
 use Rattle.sections.specs.Layout.{row, headOf, stepsAt, channelsAt, planOf}
 use Rattle.sections.proofs.Rows.{row-length}
+use Rattle.sections.proofs.Kept.{noJob}
 use Rattle.plan.specs.Checks.{first, anyFrom}
 use Rattle.plan.specs.Nodes.{jobOf, entryOf, exitOf, isNode}
 use Rattle.plan.specs.Refusals.{wrongSizes, stray, strayEnds, apart, splitEnds, leaving, exitLeft, unknown, noChannel, arcs, links, ends, shape, order}
@@ -73,9 +74,6 @@ module _ (b : List ℕ) (f : Framed b) where
 
 -- ---- the plan
 
-noJob : Job
-noJob = record { size = 0; entry = 0; exit = 0 }
-
 -- where none of refusals 5 to 9 applies
 record Shaped (p : Plan) : Type 0 where
   sizes : wrongSizes p ≡ false
@@ -95,7 +93,6 @@ shaped p e =
 
 -- the entry and the exit of a job are nodes of it
 ends-of : (p : Plan) → Shaped p → (j : ℕ) → j < length (p .jobs) → NodeOf p j (entryOf p j) × NodeOf p j (exitOf p j)
-unfolding noJob
 ends-of p s j h =
     let job = getD (p .jobs) j noJob in
     let t = none-of (stray (p .nodes) (jobOf p)) 0 (p .jobs) (s .ends) noJob j h in

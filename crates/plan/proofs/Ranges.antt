@@ -70,7 +70,6 @@ framed b e =
 pub readable : (b : List ℕ) → Framed b → Readable b (headOf b)
 readable b f = record {
   jobs = f .counts .jobs;
-  nodes = f .counts .nodes;
   steps = f .counts .steps;
   channels = f .counts .channels;
   calls = f .counts .calls;

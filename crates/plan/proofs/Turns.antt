@@ -5,25 +5,19 @@ use Prim.Native.Nat.{ℕ, _+_}
 use lib.Dec.{ltb, leb, eqb}
 use Rattle.sections.specs.declared.Jobs.{Jobs}
 use Rattle.sections.specs.declared.Arcs.{Arcs}
-use Rattle.sections.specs.Plan.{Job, Arc}
 use Rattle.sections.specs.Layout.{row}
 use Rattle.sections.specs.Tables.{place, jobIn, arcIn}
 use Rattle.plan.specs.declared.Bounds.{Bounds}
-use Rattle.plan.specs.Checks.{any, anyNumbered}
+use Rattle.plan.specs.Checks.{anyNumbered}
 use Rattle.plan.specs.Refusals.{stray, apart, leaving, unknown}
 use Rattle.plan.proofs.Tests.{any-row-more}
 
-module _ (test : ℕ → Job → Bool) (jobs : Jobs) (i : ℕ) where
-  pub job-turn : (found hit : Bool) → found ≡ anyNumbered test (row i (jobIn jobs)) → hit ≡ test i (jobIn jobs i) → (found || hit) ≡ anyNumbered test (row (i + 1) (jobIn jobs))
-  job-turn found hit e h =
-      let s : (found || hit) ≡ (anyNumbered test (row i (jobIn jobs)) || test i (jobIn jobs i)) = λ k. e k || h k in
-      s ∙ sym (any-row-more test i (jobIn jobs))
-
-module _ (test : Arc → Bool) (arcs : Arcs) (i : ℕ) where
-  pub arc-turn : (found hit : Bool) → found ≡ any test (row i (arcIn arcs)) → hit ≡ test (arcIn arcs i) → (found || hit) ≡ any test (row (i + 1) (arcIn arcs))
-  arc-turn found hit e h =
-      let s : (found || hit) ≡ (any test (row i (arcIn arcs)) || test (arcIn arcs i)) = λ k. e k || h k in
-      s ∙ sym (any-row-more (λ (n : ℕ). test) i (arcIn arcs))
+-- the same for every kind of record
+pub any-turn : {A : Type 0} (test : ℕ → A → Bool) (g : ℕ → A) (i : ℕ) (found hit : Bool) → found ≡ anyNumbered test (row i g) → hit ≡ test i (g i)
+    → (found || hit) ≡ anyNumbered test (row (i + 1) g)
+any-turn test g i found hit e h =
+    let s : (found || hit) ≡ (anyNumbered test (row i g) || test i (g i)) = λ k. e k || h k in
+    s ∙ sym (any-row-more test i g)
 
 -- ---- the tests, from what was read
 

@@ -63,11 +63,11 @@ arcs-kept l = ap (row (length l)) (fun-ext same) ∙ row-places noArc l
       label = column-at 256 (λ (a : Arc). a .label) noArc refl l i j;
     }
 
-noJob : Job
+-- a job of zeros, past the end of a list
+abbrev pub noJob : Job
 noJob = record { size = 0; entry = 0; exit = 0 }
 
 pub jobs-kept : (l : List Job) → jobsIn (jobTable l) ≡ l
-unfolding noJob
 jobs-kept l = ap (row (length l)) (fun-ext same) ∙ row-places noJob l
   where
     same : (i : ℕ) → jobIn (jobTable l) i ≡ getD l i noJob

@@ -90,7 +90,6 @@ planOf b = planUnder b (headOf b)
 -- The counts fit the tables, and the bytes hold the sections.
 pub record Readable (b : List ℕ) (h : Head) : Type 0 where
   pub jobs : h .jobs ≤ 16
-  pub nodes : h .nodes ≤ 256
   pub steps : h .steps ≤ 256
   pub channels : h .channels ≤ 64
   pub calls : h .calls ≤ 128

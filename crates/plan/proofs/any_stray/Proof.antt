@@ -7,7 +7,7 @@ use Rattle.sections.specs.Tables.{place, jobIn}
 use Rattle.plan.specs.Checks.{anyNumbered}
 use Rattle.plan.specs.Refusals.{stray}
 use Rattle.plan.proofs.Tests.{any-row-none}
-use Rattle.plan.proofs.Turns.{job-turn, stray-read}
+use Rattle.plan.proofs.Turns.{any-turn, stray-read}
 use Rattle.plan.proofs.any_stray.Statement.{statement}
 use Rattle.plan.proofs.any_stray.Tie as tie
 
@@ -56,7 +56,7 @@ loop-again c =
     let jobs = c .before .before .before .before .before .before .before .before .before .before .args .t2 in
     let loop = c .before .before .before .before .before .before .before .before .before .loop in (
       omega arith,
-      job-turn (stray (g .nodes) (place (g .owner))) jobs (loop .i) (loop .found) _ (loop .inv .1)
+      any-turn (stray (g .nodes) (place (g .owner))) (jobIn jobs) (loop .i) (loop .found) _ (loop .inv .1)
           (stray-read g jobs (loop .i) _ _ _ _ (c .before .before .before .before .before .before .byte .ensures .0) (c .before .before .before .before .byte2 .ensures .0) (c .before .before .byte3 .ensures .0) (c .byte4 .ensures .0)),
     )
 

@@ -12,7 +12,7 @@ use Rattle.plan.specs.Checks.{any}
 use Rattle.plan.specs.Refusals.{apart as apart-test, leaving as leaving-test, unknown as unknown-test}
 use Rattle.plan.specs.Bounds.{faultsOf}
 use Rattle.plan.proofs.Tests.{any-row-none}
-use Rattle.plan.proofs.Turns.{arc-turn, apart-read, leaving-read, unknown-read}
+use Rattle.plan.proofs.Turns.{any-turn, apart-read, leaving-read, unknown-read}
 use Rattle.plan.proofs.find_faults.Statement.{statement}
 use Rattle.plan.proofs.find_faults.Tie as tie
 
@@ -86,11 +86,11 @@ loop-again c =
     let from = c .before .before .before .before .before .before .before .before .before .before .byte .ensures .0 in
     let job = c .before .before .before .before .byte4 .ensures .0 in (
       omega arith,
-      arc-turn (apart-test (g .nodes) (place (g .owner))) arcs (loop .i) (loop .apart) _ (loop .inv .1)
+      any-turn (λ (k : ℕ). apart-test (g .nodes) (place (g .owner))) (arcIn arcs) (loop .i) (loop .apart) _ (loop .inv .1)
           (apart-read g arcs (loop .i) _ from _ _ _ (c .before .before .before .before .before .before .before .before .byte2 .ensures .0) job (c .before .before .byte5 .ensures .0)),
-      arc-turn (leaving-test (place (g .owner)) (place (g .exit))) arcs (loop .i) (loop .leaving) _ (loop .inv .2)
+      any-turn (λ (k : ℕ). leaving-test (place (g .owner)) (place (g .exit))) (arcIn arcs) (loop .i) (loop .leaving) _ (loop .inv .2)
           (leaving-read g arcs (loop .i) _ from _ _ job (c .byte6 .ensures .0)),
-      arc-turn (unknown-test (g .channels)) arcs (loop .i) (loop .unknown) _ (loop .inv .3) (unknown-read g arcs (loop .i) _ (c .before .before .before .before .before .before .byte3 .ensures .0)),
+      any-turn (λ (k : ℕ). unknown-test (g .channels)) (arcIn arcs) (loop .i) (loop .unknown) _ (loop .inv .3) (unknown-read g arcs (loop .i) _ (c .before .before .before .before .before .before .byte3 .ensures .0)),
     )
 
 returns : tie.Need-returns Inv-loop μ-loop

@@ -11,7 +11,7 @@ use Rattle.plan.specs.Checks.{any}
 use Rattle.plan.specs.Nodes.{total}
 use Rattle.plan.specs.Refusals.{sizesWrong}
 use Rattle.plan.proofs.Tests.{any-row-none}
-use Rattle.plan.proofs.Turns.{job-turn}
+use Rattle.plan.proofs.Turns.{any-turn}
 use Rattle.plan.proofs.Nodes.{total-none, total-more}
 use Rattle.plan.proofs.sizes_wrong.Statement.{statement}
 use Rattle.plan.proofs.sizes_wrong.Tie as tie
@@ -53,7 +53,7 @@ loop-again c =
     let w = c .wide .ensures in
     let more = total-more (jobIn jobs) (loop .i) in (
       omega arith,
-      job-turn zero-size jobs (loop .i) (loop .empty) _ (loop .inv .1) (ap (λ (n : ℕ). eqb n 0) (w .0)),
+      any-turn zero-size (jobIn jobs) (loop .i) (loop .empty) _ (loop .inv .1) (ap (λ (n : ℕ). eqb n 0) (w .0)),
       omega (arith, loop .inv .2, w .0),
       omega (arith, loop .inv .3, w .1),
     )
