@@ -6,7 +6,8 @@ use Prim.Native.Nat.{ℕ, zero, suc, _+_, _*_, _/_, _%_, _^_}
 use lib.ListN.{length, take, drop, set, replicate}
 use Rattle.fields.specs.Bits.{bitsOf, valueFrom, fieldAt, eventsFrom, eventsAt}
 use Rattle.sections.specs.declared.Kind.the-variants.{Every, None}
-use Rattle.sections.specs.Layout.{headOf, patternAt, row, planOf}
+use Rattle.rows.specs.Rows.{row}
+use Rattle.sections.specs.Layout.{headOf, patternAt, planOf}
 use Rattle.plan.specs.Checks.{first, anyFrom}
 use Rattle.plan.specs.Nodes.{ownersFrom, total}
 use Rattle.plan.specs.Refusals.{countsOutside, order}
@@ -55,7 +56,7 @@ P-changed = (refl, refl)
 -- ---- plans from their fields
 
 -- fields one after the other, each with its value and its width in bits
-abbrev Fields : Type 0
+abbrev pub Fields : Type 0
 Fields = List (ℕ × ℕ)
 
 -- a field's bits, the most significant first
@@ -73,28 +74,28 @@ bytes zero l = []
 bytes (suc n) l = valueFrom 0 (take 8 (l ++ replicate 8 0)) ∷ bytes n (drop 8 l)
 
 -- "Zero bits fill the last byte."
-abbrev packed : Fields → List ℕ
+abbrev pub packed : Fields → List ℕ
 packed fs = bytes ((length (bits fs) + 7) / 8) (bits fs)
 
 -- The sections of a plan: the head, of kind every, and the alphabet, always {1}, since no check before the pattern reads it;
-abbrev head : (jobs nodes steps calls accepts channels items : ℕ) → Fields
+abbrev pub head : (jobs nodes steps calls accepts channels items : ℕ) → Fields
 head jobs nodes steps calls accepts channels items =
     (jobs, 5) ∷ (nodes, 9) ∷ (steps, 9) ∷ (calls, 8) ∷ (accepts, 8) ∷ (channels, 7) ∷ (0, 1) ∷ (items, 7) ∷ (2 ^ 30, 31) ∷ []
 
 -- a job;
-abbrev job : (size entry exit : ℕ) → Fields
+abbrev pub job : (size entry exit : ℕ) → Fields
 job size entry exit = (size, 9) ∷ (entry, 8) ∷ (exit, 8) ∷ []
 
 -- a local step;
-abbrev step : (from to event : ℕ) → Fields
+abbrev pub step : (from to event : ℕ) → Fields
 step from to event = (from, 8) ∷ (to, 8) ∷ (event, 5) ∷ []
 
 -- a channel;
-abbrev channel : (event : ℕ) → Fields
+abbrev pub channel : (event : ℕ) → Fields
 channel event = (event, 5) ∷ []
 
 -- a call or an accept.
-abbrev link : (from to on : ℕ) → Fields
+abbrev pub link : (from to on : ℕ) → Fields
 link from to on = (from, 8) ∷ (to, 8) ∷ (on, 6) ∷ []
 
 -- n of them, by their numbers
@@ -103,7 +104,7 @@ each zero f = []
 each (suc n) f = each n f ++ f n
 
 -- a plan of two nodes, one job and one step, as P
-abbrev one : (j s : Fields) → List ℕ
+abbrev pub one : (j s : Fields) → List ℕ
 one j s = packed (head 1 2 1 0 0 0 1 ++ j ++ s)
 
 -- P from its fields. Its pattern is an item of kind 1 with the set {1}.
@@ -342,7 +343,7 @@ unfolding bitsOf valueFrom fieldAt eventsFrom eventsAt row planOf first anyFrom 
 answers = refl
 
 -- functions that agree over a list agree on each of its members
-agree : {A B : Type 0} (f g : A → B) {l : List A} → map f l ≡ map g l → {a : A} → List·Memᴰ a l → f a ≡ g a
+pub agree : {A B : Type 0} (f g : A → B) {l : List A} → map f l ≡ map g l → {a : A} → List·Memᴰ a l → f a ≡ g a
 agree f g e (List·Memᴰ·head p) = ap f p ∙ head-eq-of-cons-eq e ∙ sym (ap g p)
 agree f g e (List·Memᴰ·tail m) = agree f g (tail-eq-of-cons-eq e) m
 

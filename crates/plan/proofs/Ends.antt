@@ -13,9 +13,10 @@ use Rattle.sections.specs.declared.Head.{Head}
 use Rattle.sections.specs.declared.Decoded.{Decoded}
 use Rattle.sections.specs.Plan.{Job, Arc, Plan}
 use Rattle.sections.specs.Layout.{headOf, planOf, planUnder}
-use Rattle.sections.specs.Tables.{padded, place, sizes, exits, decodedOf, planIn}
-use Rattle.sections.proofs.Rows.{row-length}
-use Rattle.sections.proofs.Kept.{padded-places, plan-kept}
+use Rattle.rows.specs.Rows.{padded, place}
+use Rattle.sections.specs.Tables.{sizes, exits, decodedOf, planIn}
+use Rattle.rows.proofs.Rows.{row-length, padded-places}
+use Rattle.sections.proofs.Kept.{plan-kept}
 use Rattle.plan.specs.declared.Outcome.the-variants.{Accepted, Refused}
 use Rattle.plan.specs.declared.Bounds.{Bounds}
 use Rattle.plan.specs.declared.Faults.{Faults}

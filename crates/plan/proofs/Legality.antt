@@ -13,8 +13,9 @@ use lib.ListN.{length, getD, List·getD-map}
 use Rattle.fields.specs.Bits.{fieldAt}
 use Rattle.fields.proofs.Laws.{field-lt}
 use Rattle.sections.specs.Plan.{Job, Arc, Plan}
-use Rattle.sections.specs.Layout.{row, headOf, stepsAt, channelsAt, planOf}
-use Rattle.sections.proofs.Rows.{row-length}
+use Rattle.rows.specs.Rows.{row}
+use Rattle.sections.specs.Layout.{headOf, stepsAt, channelsAt, planOf}
+use Rattle.rows.proofs.Rows.{row-length}
 use Rattle.sections.proofs.Kept.{noJob}
 use Rattle.plan.specs.Checks.{first, anyFrom}
 use Rattle.plan.specs.Nodes.{jobOf, entryOf, exitOf, isNode}

@@ -9,9 +9,9 @@ use native.Mathlib.Omega.{arith}
 use lib.ListN.{length, take, set, replicate, length-append, length-replicate, replicate-append-replicate}
 use lib.Seq.{take-append-seam}
 use Rattle.sections.specs.Plan.{Job}
-use Rattle.sections.specs.Layout.{row}
-use Rattle.sections.specs.Tables.{padded, place, sizes}
-use Rattle.sections.proofs.Rows.{row-length, row-more, map-append, padded-push}
+use Rattle.rows.specs.Rows.{row, padded, place}
+use Rattle.sections.specs.Tables.{sizes}
+use Rattle.rows.proofs.Rows.{row-length, row-more, map-append, padded-push}
 use Rattle.plan.specs.declared.Owners.{Owners}
 use Rattle.plan.specs.Nodes.{owners, ownersFrom, total}
 use Rattle.plan.specs.Reading.{ownerTable}

@@ -6,8 +6,8 @@ use mathlib.Core.List.{List, [], _∷_, _++_, map}
 use Prim.Native.Nat.{ℕ, suc, _+_}
 use native.Mathlib.Omega.{arith}
 use lib.ListN.{length}
-use Rattle.sections.specs.Layout.{row}
-use Rattle.sections.proofs.Rows.{row-length, row-more}
+use Rattle.rows.specs.Rows.{row}
+use Rattle.rows.proofs.Rows.{row-length, row-more}
 use Rattle.plan.specs.Checks.{Check, refuse, orElse, first, anyFrom, any, anyNumbered}
 
 -- ---- truth values

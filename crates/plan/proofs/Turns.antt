@@ -5,8 +5,8 @@ use Prim.Native.Nat.{ℕ, _+_}
 use lib.Dec.{ltb, leb, eqb}
 use Rattle.sections.specs.declared.Jobs.{Jobs}
 use Rattle.sections.specs.declared.Arcs.{Arcs}
-use Rattle.sections.specs.Layout.{row}
-use Rattle.sections.specs.Tables.{place, jobIn, arcIn}
+use Rattle.rows.specs.Rows.{row, place}
+use Rattle.sections.specs.Tables.{jobIn, arcIn}
 use Rattle.plan.specs.declared.Bounds.{Bounds}
 use Rattle.plan.specs.Checks.{anyNumbered}
 use Rattle.plan.specs.Refusals.{stray, apart, leaving, unknown}

@@ -6,7 +6,8 @@ use mathlib.Core.List.{List}
 use lib.ListN.{length}
 use Rattle.sections.specs.Plan.{Arc, Plan}
 use Rattle.sections.specs.declared.Decoded.{Decoded}
-use Rattle.sections.specs.Tables.{padded, place, exits, decodedOf, planIn}
+use Rattle.rows.specs.Rows.{padded, place}
+use Rattle.sections.specs.Tables.{exits, decodedOf, planIn}
 use Rattle.plan.specs.declared.Bounds.{Bounds}
 use Rattle.plan.specs.declared.Faults.{Faults}
 use Rattle.plan.specs.Checks.{any}

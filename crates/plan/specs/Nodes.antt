@@ -5,7 +5,8 @@ use mathlib.Core.List.{List, [], _∷_, _++_}
 use lib.Dec.{ltb, eqb}
 use lib.ListN.{replicate}
 use Rattle.sections.specs.Plan.{Job, Plan}
-use Rattle.sections.specs.Tables.{place, entries, exits}
+use Rattle.rows.specs.Rows.{place}
+use Rattle.sections.specs.Tables.{entries, exits}
 
 -- the jobs of the nodes in turn, of jobs that are numbered from j on
 unfoldable pub ownersFrom : ℕ → List Job → List ℕ

@@ -5,7 +5,8 @@ use mathlib.Core.List.{List, []}
 use lib.ListN.{length}
 use Rattle.sections.specs.Plan.{nothing}
 use Rattle.sections.specs.Layout.{headOf, patternAt, planOf}
-use Rattle.sections.specs.Tables.{padded, decodedOf}
+use Rattle.rows.specs.Rows.{padded}
+use Rattle.sections.specs.Tables.{decodedOf}
 use Rattle.plan.specs.declared.Outcome.{Outcome}
 use Rattle.plan.specs.declared.Outcome.the-variants.{Accepted, Refused}
 use Rattle.plan.specs.declared.Owners.{Owners}

@@ -8,7 +8,8 @@ ghost use mathlib.Core.Option.{none};
 ghost use mathlib.Core.List.{_++_};
 ghost use Prim.Native.Nat.{_+_, _≤_, _<_};
 ghost use lib.ListN.{take, replicate};
-ghost use Rattle.sections.specs.Tables.{padded, place, sizes, jobsIn, arcsIn, planIn};
+ghost use Rattle.rows.specs.Rows.{padded, place};
+ghost use Rattle.sections.specs.Tables.{sizes, jobsIn, arcsIn, planIn};
 ghost use Rattle.plan.specs.Checks.{first, anyNumbered};
 ghost use Rattle.plan.specs.Nodes.{owners, total};
 ghost use Rattle.plan.specs.Bounds.{OwnersBelow, faultsOf, Tabled};
@@ -247,7 +248,7 @@ fn bounded(d: Decoded, owner: [u8; 256]) -> Outcome
 }
 
 // A refusal: its number, and nothing else.
-fn turned_down(n: u32) -> Reading
+pub fn turned_down(n: u32) -> Reading
     ensures { λ r. ⌜ r ≡ refused n ⌝ }
 {
     Reading {

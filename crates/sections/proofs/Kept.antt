@@ -1,51 +1,12 @@
 -- What tables keep of a plan is the plan. Assumes nothing.
-use mathlib.Core.Path.{_≡_, refl, sym, ap, ap₂, _∙_, fun-ext}
-use mathlib.Core.List.{List, [], _∷_, _++_, map}
-use Prim.Native.Nat.{ℕ, zero, suc, _-_, _≤_, _<_}
-use native.Mathlib.Omega.{arith}
-use lib.ListN.{length, getD, take, replicate, List·getD-map}
-use lib.Seq.{take-suc, take-length}
+use mathlib.Core.Path.{_≡_, refl, ap, _∙_, fun-ext}
+use mathlib.Core.List.{List}
+use Prim.Native.Nat.{ℕ}
+use lib.ListN.{length, getD}
 use Rattle.sections.specs.Plan.{Job, Arc, Plan}
-use Rattle.sections.specs.Layout.{row}
-use Rattle.sections.specs.Tables.{padded, place, jobTable, arcTable, channelTable, decodedOf, jobIn, arcIn, jobsIn, arcsIn, channelsIn, planIn}
-
--- ---- places of a padded array
-
-zeros-at : (n i : ℕ) → place (replicate n 0) i ≡ 0
-zeros-at zero i = refl
-zeros-at (suc n) zero = refl
-zeros-at (suc n) (suc i) = zeros-at n i
-
-append-zeros-at : (xs : List ℕ) (k i : ℕ) → place (xs ++ replicate k 0) i ≡ place xs i
-append-zeros-at [] k i = zeros-at k i
-append-zeros-at (x ∷ xs) k zero = refl
-append-zeros-at (x ∷ xs) k (suc i) = append-zeros-at xs k i
-
--- behind the list stand zeros, as past its end
-pub padded-places : (n : ℕ) (xs : List ℕ) → place (padded n xs) ≡ place xs
-unfolding padded
-padded-places n xs = fun-ext (λ i. append-zeros-at xs (n - length xs) i)
-
--- a field of the record i, from its column
-pub column-at : {A : Type 0} (n : ℕ) (g : A → ℕ) (d : A) → g d ≡ 0 → (l : List A) (i : ℕ) → place (padded n (map g l)) i ≡ g (getD l i d)
-column-at n g d e l i =
-    ap (λ (f : ℕ → ℕ). f i) (padded-places n (map g l)) ∙ ap (getD (map g l) i) (sym e) ∙ List·getD-map g l i d
-
--- ---- rows
-
-pub row-ext : {A : Type 0} (f g : ℕ → A) (n : ℕ) → ((i : ℕ) → i < n → f i ≡ g i) → row n f ≡ row n g
-unfolding row
-row-ext f g zero h = refl
-row-ext f g (suc n) h = ap₂ (λ xs x. xs ++ (x ∷ [])) (row-ext f g n (λ i l. h i (omega arith))) (h n (omega arith))
-
-row-take : {A : Type 0} (d : A) (l : List A) (n : ℕ) → n ≤ length l → row n (λ i. getD l i d) ≡ take n l
-unfolding row
-row-take d l zero h = refl
-row-take d l (suc n) h = rw (take-suc l n d h) (ap (λ xs. xs ++ (getD l n d ∷ [])) (row-take d l n (omega arith)))
-
--- a list is the row of its places
-pub row-places : {A : Type 0} (d : A) (l : List A) → row (length l) (λ i. getD l i d) ≡ l
-row-places d l = row-take d l (length l) (omega arith) ∙ take-length l
+use Rattle.rows.specs.Rows.{row}
+use Rattle.rows.proofs.Rows.{padded-places, column-at, row-places}
+use Rattle.sections.specs.Tables.{jobTable, arcTable, channelTable, decodedOf, jobIn, arcIn, jobsIn, arcsIn, channelsIn, planIn}
 
 -- ---- tables
 

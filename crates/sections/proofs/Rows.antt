@@ -1,14 +1,11 @@
--- Laws of rows of records and of padded arrays. Assumes nothing.
-use mathlib.Core.Path.{_≡_, refl, sym, ap, _∙_}
-use mathlib.Core.List.{List, [], _∷_, _++_, map}
-use Prim.Native.Nat.{ℕ, zero, suc, _+_, _-_, _*_, _≤_, _<_}
+-- Records of so many bits one after the other, and the tables of all of them. Assumes nothing.
+use mathlib.Core.Path.{_≡_}
+use mathlib.Core.List.{List}
+use Prim.Native.Nat.{ℕ, _+_, _*_, _≤_, _<_}
 use native.Mathlib.Nat.{mul-suc, mul-le-mul, mul-le-mul-left}
-use native.Mathlib.Numerals.{add-one}
 use native.Mathlib.Omega.{arith}
-use lib.ListN.{length, set, replicate, length-append}
-use lib.Seq.{set-at, append-snoc}
 use Rattle.fields.specs.Bits.{eventsAt}
-use Rattle.sections.specs.Layout.{row, alphabetAt, jobsOf, arcsAt, stepsAt, channelsOf, callsAt, acceptsAt, planUnder}
+use Rattle.sections.specs.Layout.{alphabetAt, jobsOf, arcsAt, stepsAt, channelsOf, callsAt, acceptsAt, planUnder}
 use Rattle.sections.specs.declared.Kind.{Kind}
 use Rattle.sections.specs.declared.Head.{Head}
 use Rattle.sections.specs.declared.Jobs.{Jobs}
@@ -16,54 +13,15 @@ use Rattle.sections.specs.declared.Arcs.{Arcs}
 use Rattle.sections.specs.declared.Channels.{Channels}
 use Rattle.sections.specs.declared.Decoded.{Decoded}
 use Rattle.sections.specs.Plan.{Job, Arc, kindOf}
-use Rattle.sections.specs.Tables.{padded, sizes, entries, exits, froms, tos, labels, jobTable, arcTable, channelTable, decodedOf}
+use Rattle.rows.specs.Rows.{row, padded}
+use Rattle.rows.proofs.Rows.{row-length}
+use Rattle.sections.specs.Tables.{sizes, entries, exits, froms, tos, labels, jobTable, arcTable, channelTable, decodedOf}
 
 -- ---- records of k bits, one after the other
 
 -- the record i of n ends within them, and starts at a place that fits
 pub stride : (k i n : ℕ) → i < n → k ≤ 24 → n ≤ 256 → (k * i + k ≤ k * n) × (k * i ≤ 6144)
 stride k i n h a b = (rw (← (mul-suc k i)) (mul-le-mul-left k h), mul-le-mul {n₁ = k} {m₁ = i} {n₂ = 24} {m₂ = 256} a (omega arith))
-
--- ---- rows
-
-module _ {A : Type 0} (f : ℕ → A) where
-  pub row-length : (n : ℕ) → length (row n f) ≡ n
-  unfolding row
-  row-length zero = refl
-  row-length (suc n) = rw (length-append, row-length n) (omega arith)
-
-  pub row-more : (n : ℕ) → row (n + 1) f ≡ row n f ++ (f n ∷ [])
-  unfolding row
-  row-more n = rw (add-one n)
-
-pub map-append : {A B : Type 0} (g : A → B) (xs ys : List A) → map g (xs ++ ys) ≡ map g xs ++ map g ys
-map-append g [] ys = refl
-map-append g (x ∷ xs) ys = ap (λ l. g x ∷ l) (map-append g xs ys)
-
-pub map-row : {A B : Type 0} (g : A → B) (f : ℕ → A) (n : ℕ) → map g (row n f) ≡ row n (λ i. g (f i))
-unfolding row
-map-row g f zero = refl
-map-row g f (suc n) = map-append g (row n f) (f n ∷ []) ∙ ap (λ l. l ++ (g (f n) ∷ [])) (map-row g f n)
-
--- ---- padded arrays
-
--- one place more is filled
-pub padded-push : (n : ℕ) (xs : List ℕ) (i v : ℕ) → length xs ≡ i → i < n → set (padded n xs) i v ≡ padded n (xs ++ (v ∷ []))
-unfolding padded
-padded-push n xs i v e h =
-    let k : n - length xs ≡ suc (n - suc i) = omega arith in
-    let m : n - length (xs ++ (v ∷ [])) ≡ n - suc i = rw length-append (omega arith) in
-    rw (k, m) (set-at xs 0 (replicate (n - suc i) 0) v i e ∙ sym (append-snoc xs v (replicate (n - suc i) 0)))
-
--- an array that is filled from the front with a row of numbers
-pub padded-row-more : (size : ℕ) (f : ℕ → ℕ) (i v : ℕ) → i < size → v ≡ f i → set (padded size (row i f)) i v ≡ padded size (row (i + 1) f)
-padded-row-more size f i v h e =
-    padded-push size (row i f) i v (row-length f i) h ∙ ap (λ x. padded size (row i f ++ (x ∷ []))) e ∙ ap (padded size) (sym (row-more f i))
-
--- the same with a field of each record of a row
-pub column-more : {A : Type 0} (size : ℕ) (g : A → ℕ) (f : ℕ → A) (i v : ℕ) → i < size → v ≡ g (f i)
-    → set (padded size (map g (row i f))) i v ≡ padded size (map g (row (i + 1) f))
-column-more size g f i v h e = rw (map-row g f i, map-row g f (i + 1)) (padded-row-more size (λ k. g (f k)) i v h e)
 
 -- ---- tables, where a loop has gone through all the records
 

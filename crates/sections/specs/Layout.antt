@@ -1,7 +1,8 @@
 -- Where the sections of a plan stand in its bits, and what they say. Document 01, "The bit-packed plan", the table.
-use Prim.Native.Nat.{ℕ, zero, suc, _+_, _*_, _/_, _≤_}
-use mathlib.Core.List.{List, [], _∷_, _++_}
+use Prim.Native.Nat.{ℕ, _+_, _*_, _/_, _≤_}
+use mathlib.Core.List.{List}
 use lib.ListN.{length}
+use Rattle.rows.specs.Rows.{row}
 use Rattle.fields.specs.Bits.{fieldAt, eventsAt}
 use Rattle.sections.specs.declared.Head.{Head}
 use Rattle.sections.specs.Plan.{Job, Arc, Plan, kindOf}
@@ -53,11 +54,6 @@ jobAt b at = record { size = fieldAt b at 9; entry = fieldAt b (at + 9) 8; exit 
 -- "each local step: from 8, to 8, event 5"; "each call, then each accept: from 8, to 8, channel 6"
 abbrev pub arcAt : List ℕ → ℕ → ℕ → Arc
 arcAt b width at = record { from = fieldAt b at 8; to = fieldAt b (at + 8) 8; label = fieldAt b (at + 16) width }
-
--- f 0, f 1, .. , n of them
-unfoldable pub row : {A : Type 0} → ℕ → (ℕ → A) → List A
-row zero f = []
-row (suc n) f = row n f ++ (f n ∷ [])
 
 -- n arcs one after the other from the place `at` on, with labels of `width` bits
 abbrev pub arcsAt : List ℕ → ℕ → ℕ → ℕ → List Arc

@@ -1,22 +1,14 @@
 -- How the code keeps a plan: an array for each field of a section, and the number of its records. And back: the plan
 -- that tables keep.
-use Prim.Native.Nat.{ℕ, _-_}
-use mathlib.Core.List.{List, _++_, map}
-use lib.ListN.{length, getD, replicate}
+use Prim.Native.Nat.{ℕ}
+use mathlib.Core.List.{List, map}
+use lib.ListN.{length}
 use Rattle.sections.specs.declared.Jobs.{Jobs}
 use Rattle.sections.specs.declared.Arcs.{Arcs}
 use Rattle.sections.specs.declared.Channels.{Channels}
 use Rattle.sections.specs.declared.Decoded.{Decoded}
 use Rattle.sections.specs.Plan.{Job, Arc, Plan}
-use Rattle.sections.specs.Layout.{row}
-
--- an array of n places that begins with xs, with 0 in the places behind
-unfoldable pub padded : ℕ → List ℕ → List ℕ
-padded n xs = xs ++ replicate (n - length xs) 0
-
--- what stands at a place, and 0 past the end
-abbrev pub place : List ℕ → ℕ → ℕ
-place xs i = getD xs i 0
+use Rattle.rows.specs.Rows.{row, padded, place}
 
 abbrev pub sizes : List Job → List ℕ
 sizes l = map (λ (j : Job). j .size) l

@@ -4,7 +4,8 @@ ghost use Prim.Native.Nat.{ℕ, _+_, _*_, _≤_};
 ghost use lib.ListN.{length};
 ghost use Rattle.fields.specs.Bits.{fieldAt};
 ghost use Rattle.sections.specs.Plan.{kindOf, nothing};
-ghost use Rattle.sections.specs.Layout.{headOf, jobAt, arcsAt, row, planUnder, endAt, Readable};
+ghost use Rattle.rows.specs.Rows.{row};
+ghost use Rattle.sections.specs.Layout.{headOf, jobAt, arcsAt, planUnder, endAt, Readable};
 ghost use Rattle.sections.specs.Tables.{jobTable, arcTable, channelTable, decodedOf};
 
 // What a plan claims of its complete runs.

@@ -2,8 +2,8 @@
 use mathlib.Core.Path.{_≡_, sym, ap, _∙_}
 use Prim.Native.Nat.{ℕ, _-_, _≤_}
 use native.Mathlib.Omega.{arith}
-use Rattle.sections.specs.Layout.{row}
-use Rattle.sections.specs.Tables.{place, jobIn}
+use Rattle.rows.specs.Rows.{row, place}
+use Rattle.sections.specs.Tables.{jobIn}
 use Rattle.plan.specs.Checks.{anyNumbered}
 use Rattle.plan.specs.Refusals.{stray}
 use Rattle.plan.proofs.Tests.{any-row-none}

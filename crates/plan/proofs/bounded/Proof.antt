@@ -5,7 +5,7 @@ use Rattle.sections.specs.Plan.{Plan}
 use Rattle.plan.specs.declared.Bounds.{Bounds}
 use Rattle.plan.specs.declared.Faults.{Faults}
 use Rattle.sections.specs.Tables.{planIn}
-use Rattle.sections.proofs.Rows.{row-length}
+use Rattle.rows.proofs.Rows.{row-length}
 use Rattle.plan.specs.Refusals.{strayEnds, splitEnds, exitLeft, noChannel}
 use Rattle.plan.specs.Bounds.{OwnersBelow, boundsOf}
 use Rattle.plan.specs.Reading.{outcomeOf}

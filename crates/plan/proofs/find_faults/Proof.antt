@@ -5,8 +5,8 @@ use Prim.Native.Nat.{ℕ, _-_, _≤_}
 use native.Mathlib.Omega.{arith}
 use Rattle.sections.specs.declared.Arcs.{Arcs}
 use Rattle.sections.specs.Plan.{Arc}
-use Rattle.sections.specs.Layout.{row}
-use Rattle.sections.specs.Tables.{place, arcIn}
+use Rattle.rows.specs.Rows.{row, place}
+use Rattle.sections.specs.Tables.{arcIn}
 use Rattle.plan.specs.declared.Faults.{Faults}
 use Rattle.plan.specs.Checks.{any}
 use Rattle.plan.specs.Refusals.{apart as apart-test, leaving as leaving-test, unknown as unknown-test}

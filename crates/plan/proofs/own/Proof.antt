@@ -4,7 +4,7 @@ use mathlib.Core.List.{_++_, append-nil}
 use Prim.Native.Nat.{ℕ, _+_, _-_, _≤_}
 use native.Mathlib.Omega.{arith}
 use lib.ListN.{length, take, replicate, length-append, length-replicate}
-use Rattle.sections.specs.Tables.{padded}
+use Rattle.rows.specs.Rows.{padded}
 use Rattle.plan.specs.declared.Owners.{Owners}
 use Rattle.plan.proofs.Nodes.{own-more}
 use Rattle.plan.proofs.own.Statement.{statement}

@@ -4,8 +4,8 @@ use mathlib.Core.List.{_++_}
 use Prim.Native.Nat.{ℕ, _+_, _-_, _≤_}
 use native.Mathlib.Omega.{arith}
 use lib.ListN.{replicate}
-use Rattle.sections.specs.Layout.{row}
-use Rattle.sections.specs.Tables.{padded, jobIn}
+use Rattle.rows.specs.Rows.{row, padded}
+use Rattle.sections.specs.Tables.{jobIn}
 use Rattle.plan.specs.declared.Owners.{Owners}
 use Rattle.plan.specs.Nodes.{owners, ownersFrom}
 use Rattle.plan.specs.Reading.{ownerTable}

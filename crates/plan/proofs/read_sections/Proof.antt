@@ -7,7 +7,8 @@ use native.Mathlib.Omega.{arith}
 use Rattle.sections.specs.Plan.{Plan}
 use Rattle.sections.specs.declared.Decoded.{Decoded}
 use Rattle.sections.specs.Layout.{headOf, endAt, patternAt, planOf}
-use Rattle.sections.specs.Tables.{padded, decodedOf, planIn, jobsIn}
+use Rattle.rows.specs.Rows.{padded}
+use Rattle.sections.specs.Tables.{decodedOf, planIn, jobsIn}
 use Rattle.plan.specs.declared.Outcome.the-variants.{Accepted}
 use Rattle.plan.specs.declared.Owners.{Owners}
 use Rattle.plan.specs.declared.Reading.{Reading}

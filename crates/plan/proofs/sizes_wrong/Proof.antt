@@ -5,7 +5,7 @@ use Prim.Native.Nat.{ℕ, _*_, _-_, _≤_}
 use native.Mathlib.Omega.{arith}
 use lib.Dec.{eqb}
 use Rattle.sections.specs.Plan.{Job}
-use Rattle.sections.specs.Layout.{row}
+use Rattle.rows.specs.Rows.{row}
 use Rattle.sections.specs.Tables.{sizes, jobIn}
 use Rattle.plan.specs.Checks.{any}
 use Rattle.plan.specs.Nodes.{total}

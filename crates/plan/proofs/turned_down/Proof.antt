@@ -1,6 +1,6 @@
 -- `turned_down` answers the number and nothing else. Assumes nothing.
 use mathlib.Core.List.{[]}
-use Rattle.sections.specs.Tables.{padded}
+use Rattle.rows.specs.Rows.{padded}
 use Rattle.plan.specs.declared.Outcome.the-variants.{Refused}
 use borrow.Author.Needs.{needs}
 use Rattle.plan.proofs.turned_down.Statement.{statement}

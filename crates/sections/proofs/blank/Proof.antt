@@ -1,6 +1,6 @@
 -- `blank` is the tables of the plan that says nothing. Assumes nothing.
 use borrow.Author.Needs.{needs}
-use Rattle.sections.specs.Tables.{padded}
+use Rattle.rows.specs.Rows.{padded}
 use Rattle.sections.proofs.blank.Statement.{statement}
 use Rattle.sections.proofs.blank.Tie as tie
 

@@ -1,6 +1,6 @@
 -- `no_arcs` is the table of the empty list. Assumes nothing.
 use mathlib.Core.Path.{refl}
-use Rattle.sections.specs.Tables.{padded}
+use Rattle.rows.specs.Rows.{padded}
 use Rattle.sections.proofs.no_arcs.Statement.{statement}
 use Rattle.sections.proofs.no_arcs.Tie as tie
 

@@ -5,9 +5,11 @@ use native.Mathlib.Omega.{arith}
 use lib.Pow.{pow-mono}
 use Rattle.fields.proofs.Laws.{field-lt}
 use Rattle.sections.specs.Plan.{Arc}
-use Rattle.sections.specs.Layout.{row, arcAt}
-use Rattle.sections.specs.Tables.{padded, froms, tos, labels}
-use Rattle.sections.proofs.Rows.{stride, column-more, arcs-read}
+use Rattle.rows.specs.Rows.{row, padded}
+use Rattle.sections.specs.Layout.{arcAt}
+use Rattle.sections.specs.Tables.{froms, tos, labels}
+use Rattle.rows.proofs.Rows.{column-more}
+use Rattle.sections.proofs.Rows.{stride, arcs-read}
 use Rattle.sections.proofs.read_arcs.Statement.{statement}
 use Rattle.sections.proofs.read_arcs.Tie as tie
 

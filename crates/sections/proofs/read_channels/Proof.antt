@@ -4,9 +4,9 @@ use Prim.Native.Nat.{ℕ, _+_, _-_, _*_, _≤_}
 use native.Mathlib.Omega.{arith}
 use Rattle.fields.specs.Bits.{fieldAt}
 use Rattle.fields.proofs.Laws.{field-lt}
-use Rattle.sections.specs.Layout.{row}
-use Rattle.sections.specs.Tables.{padded}
-use Rattle.sections.proofs.Rows.{padded-row-more, channels-read}
+use Rattle.rows.specs.Rows.{row, padded}
+use Rattle.rows.proofs.Rows.{padded-row-more}
+use Rattle.sections.proofs.Rows.{channels-read}
 use Rattle.sections.proofs.read_channels.Statement.{statement}
 use Rattle.sections.proofs.read_channels.Tie as tie
 

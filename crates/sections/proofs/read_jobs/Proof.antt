@@ -4,9 +4,11 @@ use Prim.Native.Nat.{ℕ, _+_, _-_, _*_, _≤_, _<_}
 use native.Mathlib.Omega.{arith}
 use Rattle.fields.proofs.Laws.{field-lt}
 use Rattle.sections.specs.Plan.{Job}
-use Rattle.sections.specs.Layout.{row, jobAt}
-use Rattle.sections.specs.Tables.{padded, sizes, entries, exits}
-use Rattle.sections.proofs.Rows.{column-more, jobs-read}
+use Rattle.rows.specs.Rows.{row, padded}
+use Rattle.sections.specs.Layout.{jobAt}
+use Rattle.sections.specs.Tables.{sizes, entries, exits}
+use Rattle.rows.proofs.Rows.{column-more}
+use Rattle.sections.proofs.Rows.{jobs-read}
 use Rattle.sections.proofs.read_jobs.Statement.{statement}
 use Rattle.sections.proofs.read_jobs.Tie as tie
 

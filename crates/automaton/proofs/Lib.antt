@@ -1,0 +1,9 @@
+-- Laws of the numbered automaton, and its cases.
+pub mod Cases
+pub mod Moves
+pub mod Growth
+pub mod Turns
+pub mod Entries
+pub mod Filling
+pub mod Accepting
+pub mod Language

@@ -1,0 +1,119 @@
+-- From the first items to one more: what the code keeps of them. Assumes nothing.
+use mathlib.Core.Path.{_≡_, refl, sym, ap, _∙_}
+use mathlib.Core.Bool.{Bool, true, false, true≢false}
+use mathlib.Core.List.{List, [], _∷_, _++_, map}
+use mathlib.Core.Option.{Option, none, some}
+use Prim.Native.Nat.{ℕ, zero, suc, _+_, _-_, _*_, _≤_, _<_}
+use native.Mathlib.Numerals.{add-one}
+use native.Mathlib.Omega.{arith}
+use lib.ListN.{length, set, length-append}
+use lib.ListN.{length-map}
+use Rattle.rows.specs.Rows.{padded}
+use Rattle.rows.proofs.Rows.{map-append, padded-push}
+use Rattle.plan.specs.declared.Outcome.{Outcome}
+use Rattle.plan.specs.declared.Outcome.the-variants.{Accepted, Refused}
+use Rattle.plan.specs.Checks.{first}
+use Rattle.regex.specs.Items.{Item, arity, operands, push}
+use Rattle.regex.proofs.Operands.{push-none, push-more, push-length}
+use Rattle.items.specs.Items.{Spot, Read, faulty, upTo, kindAt, itemAt, width, faults, depth, pointOf, past, judged, oneMore, read}
+use Rattle.items.specs.Tables.{kindOf, setOf, foundAs, added, scanOf}
+use Rattle.items.proofs.Faults.{arity-kind, kind-item, width-item, faultless}
+
+-- ---- what the code keeps, read back
+
+isAccepted : Outcome → Bool
+isAccepted Accepted = true
+isAccepted (Refused n) = false
+
+accepted-refused : (n : ℕ) → Accepted ≡ Refused n → ⊥
+unfolding isAccepted
+accepted-refused n e = true≢false (ap isAccepted e)
+
+pub scan-faulty : (x : Read) (n : ℕ) → scanOf x .outcome ≡ Refused n → x ≡ faulty n
+scan-faulty (faulty m) n e = cc
+scan-faulty (upTo s) n e = cc
+
+pub scan-up-to : (x : Read) → scanOf x .outcome ≡ Accepted → (s : Spot) × (x ≡ upTo s)
+scan-up-to (faulty m) e = absurd (accepted-refused m (sym e))
+scan-up-to (upTo s) e = (s, refl)
+
+pub found-refused : (o : Option ℕ) (i : Item) (n : ℕ) → foundAs o i .outcome ≡ Refused n → o ≡ some n
+found-refused none i n e = absurd (accepted-refused n e)
+found-refused (some m) i n e = cc
+
+pub found-accepted : (o : Option ℕ) (i : Item) → foundAs o i .outcome ≡ Accepted → o ≡ none
+found-accepted none i e = refl
+found-accepted (some m) i e = absurd (accepted-refused m (sym e))
+
+module _ (b : List ℕ) (alphabet : ℕ) where
+  read-more : (i : ℕ) → read b alphabet (i + 1) ≡ oneMore b alphabet (read b alphabet i)
+  unfolding read
+  read-more i = rw (add-one i)
+
+  -- ---- the next item
+
+  pub faulty-more : (i n : ℕ) → read b alphabet i ≡ faulty n → read b alphabet (i + 1) ≡ faulty n
+  faulty-more i n e = read-more i ∙ ap (oneMore b alphabet) e
+
+  module _ (i : ℕ) (s : Spot) (e : read b alphabet i ≡ upTo s) where
+    pub refused-next : (n : ℕ) → first (faults b alphabet) (pointOf s) ≡ some n → read b alphabet (i + 1) ≡ faulty n
+    refused-next n h = read-more i ∙ ap (oneMore b alphabet) e ∙ ap (λ (o : Option ℕ). judged b alphabet o s) h
+
+    pub read-next : first (faults b alphabet) (pointOf s) ≡ none → read b alphabet (i + 1) ≡ upTo (past b alphabet s)
+    read-next h = read-more i ∙ ap (oneMore b alphabet) e ∙ ap (λ (o : Option ℕ). judged b alphabet o s) h
+
+  -- ---- an item without fault
+
+  module _ (s : Spot) (fine : first (faults b alphabet) (pointOf s) ≡ none) where
+    pub kind-at : kindOf (itemAt b (s .at)) ≡ kindAt b (s .at)
+    unfolding itemAt
+    kind-at = kind-item _ _ (faultless b alphabet (s .at) (depth s) fine .0)
+
+    pub enough : arity (itemAt b (s .at)) ≤ depth s
+    enough = faultless b alphabet (s .at) (depth s) fine .1
+
+    -- the operands that it leaves
+    pub depth-past : depth (past b alphabet s) ≡ depth s + 1 - arity (itemAt b (s .at))
+    depth-past =
+        let i = itemAt b (s .at) in
+        let l : length (push i (operands (s .items))) + arity i ≡ depth s + 1 = push-length i (operands (s .items)) enough in
+        ap length (push-more (s .items) i) ∙ omega arith
+
+    -- what the code keeps of the items with this one
+    module _ (few : length (s .items) < 64) where
+      column : (g : Item → ℕ) → set (padded 64 (map g (s .items))) (length (s .items)) (g (itemAt b (s .at))) ≡ padded 64 (map g (s .items ++ (itemAt b (s .at) ∷ [])))
+      column g =
+          padded-push 64 (map g (s .items)) (length (s .items)) _ (length-map (s .items) g) few
+          ∙ ap (padded 64) (sym (map-append g (s .items) (itemAt b (s .at) ∷ [])))
+
+      pub kept : added (scanOf (upTo s)) (foundAs none (itemAt b (s .at))) ≡ scanOf (upTo (past b alphabet s))
+      kept = λ i. record {
+        outcome = Accepted;
+        at = s .at + width (kind-at i);
+        depth = (ap (λ (n : ℕ). depth s + 1 - n) (arity-kind (itemAt b (s .at))) ∙ sym depth-past) i;
+        items = record { kind = column kindOf i; set = column setOf i; count = (sym (length-append (s .items) (itemAt b (s .at) ∷ []))) i };
+      }
+
+  -- ---- bounds of what is read
+
+  abbrev pub Bounds : ℕ → Read → Type 0
+  Bounds i (faulty n) = Unit {0}
+  Bounds i (upTo s) = (s .at ≤ 34 * i) × (length (s .items) ≡ i) × (depth s ≤ i) × (3 * i ≤ s .at)
+
+  bounds-judged : (i : ℕ) (s : Spot) → Bounds i (upTo s) → (o : Option ℕ) → first (faults b alphabet) (pointOf s) ≡ o → Bounds (suc i) (judged b alphabet o s)
+  bounds-judged i s h (some n) e = tt
+  bounds-judged i s h none e = (
+    omega (arith, width-item (kindAt b (s .at))),
+    omega (arith, length-append (s .items) (itemAt b (s .at) ∷ [])),
+    omega (arith, depth-past s e),
+    omega (arith, width-item (kindAt b (s .at))),
+  )
+
+  bounds-more : (i : ℕ) (x : Read) → Bounds i x → Bounds (suc i) (oneMore b alphabet x)
+  bounds-more i (faulty n) h = tt
+  bounds-more i (upTo s) h = bounds-judged i s h (first (faults b alphabet) (pointOf s)) refl
+
+  pub read-bounds : (i : ℕ) → Bounds i (read b alphabet i)
+  unfolding read
+  read-bounds zero = (omega arith, refl, omega (arith, ap length push-none), omega arith)
+  read-bounds (suc i) = bounds-more i (read b alphabet i) (read-bounds i)

@@ -1,0 +1,18 @@
+-- `turned_down` answers the number and nothing else. Assumes nothing.
+use borrow.Author.Needs.{needs}
+use Rattle.pattern.proofs.turned_down.Statement.{statement}
+use Rattle.pattern.proofs.turned_down.Tie as tie
+use Rattle.items.proofs.blank.Reads as blank-reads
+use Rattle.plan.proofs.turned_down.Reads as turned-down-reads
+
+turned-down-requires : tie.Need-turned-down-requires
+turned-down-requires c κs = search needs
+
+blank-requires : tie.Need-blank-requires
+blank-requires c κs = search needs
+
+returns : tie.Need-returns
+returns c = λ i. record { reading = c .before .turned-down .ensures i; items = c .blank .ensures i }
+
+pub turned-down-spec : {M : Type 1} → statement M
+turned-down-spec = tie.close (tie.spec turned-down-requires blank-requires returns)

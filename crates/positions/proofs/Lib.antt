@@ -1,0 +1,4 @@
+-- Laws of drafts that belong to no one function.
+pub mod Arrays
+pub mod Items
+pub mod Whole

@@ -1,0 +1,105 @@
+-- All items: what they build is the table of the pattern, and its positions fit the arrays. Assumes nothing.
+use mathlib.Core.Path.{_≡_, refl, sym, ap, ap₂, _∙_}
+use mathlib.Core.Bool.{cond}
+use mathlib.Core.Logic.{⊎-elim}
+use mathlib.Core.List.{List, [], _∷_}
+use Prim.Native.Nat.{ℕ, zero, suc, _+_, _≤_, _<_}
+use native.Mathlib.Nat.{le-refl, eq-or-lt-of-le}
+use native.Mathlib.Numerals.{add-one}
+use native.Mathlib.Omega.{arith}
+use lib.Bits.{bitOr}
+use lib.ListN.{length, getD, set}
+use Rattle.rows.specs.Rows.{row, place}
+use Rattle.rows.proofs.Rows.{row-more}
+use Rattle.regex.specs.Expression.{Expression}
+use Rattle.regex.specs.Items.{push, operands, newest, patternOf}
+use Rattle.regex.specs.Positions.{size, first, after, final}
+use Rattle.regex.proofs.Operands.{push-none, push-more, push-length, free, free-push, Counted, counted-none, counted-push, counted-free}
+use Rattle.regex.proofs.Stack.{Operand as Masks, operandAt, follows, holdings, holdings-one}
+use Rattle.items.specs.Items.{itemOf}
+use Rattle.items.specs.Tables.{itemOn, itemsOn}
+use Rattle.items.specs.Postfix.{Postfix}
+use Rattle.items.specs.declared.Items.{Items}
+use Rattle.positions.specs.declared.Draft.{Draft}
+use Rattle.positions.specs.declared.Positions.{Positions}
+use Rattle.positions.specs.Drafts.{nothing, operandOf, TableOf}
+use Rattle.positions.proofs.Arrays.{listed-top, row-stays}
+use Rattle.positions.proofs.Items.{draft-depth}
+
+-- ---- one operand is left
+
+-- what begins it may follow the beginning
+begun : (e : Expression) → set (row 33 (follows (e ∷ []))) 0 (first 1 e) ≡ row 33 (after e)
+unfolding row
+begun e = refl
+
+ended : (e : Expression) (m : Masks) → m ≡ operandAt 1 e → bitOr (m .last) (cond (m .null) 1 0) ≡ final e
+unfolding final
+ended e m h = ap (λ (k : Masks). bitOr (k .last) (cond (k .null) 1 0)) h
+
+pub table-made : (d : Draft) (r : Positions) (m : Masks) → m ≡ operandOf (getD (d .stack .operands) 0 nothing)
+    → r .count ≡ d .count → r .after ≡ set (d .after) 0 (m .first) → r .holding ≡ d .holding → r .last ≡ bitOr (m .last) (cond (m .null) 1 0) → TableOf d r
+table-made d r m w count links holding last e b =
+    let whole = w ∙ listed-top (d .stack .operands) (d .stack .depth) 0 (operandAt 1 e) [] (draft-depth (e ∷ []) d b) (b .stack) .0 in
+    let n : free (e ∷ []) ≡ suc (size e) = omega arith in
+    λ i. record {
+      count = (count ∙ b .count ∙ n) i;
+      after = (links ∙ ap₂ (λ xs v. set xs 0 v) (b .after) (ap (λ (k : Masks). k .first) whole) ∙ begun e) i;
+      holding = row-stays 32 (r .holding) (holdings (e ∷ [])) _ (holding ∙ b .holding) (λ p. sym (holdings-one e p)) i;
+      last = (last ∙ ended e m whole) i;
+    }
+
+pub sole : (st : List Expression) → length st ≡ 1 → st ≡ newest st ∷ []
+sole [] h = absurd (omega arith)
+sole (e ∷ []) h = refl
+sole (e ∷ f ∷ st) h = absurd (omega arith)
+
+-- ---- the operands behind the first items
+
+module _ (t : Items) where
+  -- those of the first i
+  abbrev pub behind : ℕ → List Expression
+  behind i = operands (row i (itemOn t))
+
+  pub behind-none : behind 0 ≡ []
+  unfolding row
+  behind-none = push-none
+
+  pub behind-more : (i : ℕ) → behind (i + 1) ≡ push (itemOn t i) (behind i)
+  behind-more i = ap operands (row-more (itemOn t) i) ∙ push-more (row i (itemOn t)) (itemOn t i)
+
+  behind-suc : (i : ℕ) → behind (suc i) ≡ push (itemOn t i) (behind i)
+  behind-suc i = ap behind (sym (add-one i)) ∙ behind-more i
+
+  -- no more than the items
+  pub behind-few : (i : ℕ) → Postfix t → i ≤ t .count → length (behind i) ≤ i
+  behind-few zero p h = rw behind-none (omega arith)
+  behind-few (suc i) p h =
+      let less = behind-few i p (omega arith) in
+      rw (behind-suc i) (omega (arith, push-length (itemOn t i) (behind i) (p .enough i (omega arith))))
+
+  behind-counted : (i : ℕ) → Postfix t → i ≤ t .count → Counted i (behind i)
+  behind-counted zero p h = rw behind-none counted-none
+  behind-counted (suc i) p h =
+      rw (behind-suc i, ← (add-one i)) (counted-push i (itemOn t i) (behind i) (p .enough i (omega arith)) (behind-counted i p (omega arith)))
+
+  free-grows : (i n : ℕ) → i ≤ n → free (behind i) ≤ free (behind n)
+  free-grows i zero h = let z : i ≡ 0 = omega arith in rw z (omega arith)
+  free-grows i (suc n) h =
+      ⊎-elim
+      (λ (q : i ≡ suc n). rw q (le-refl _))
+      (λ (q : i < suc n). rw (behind-suc n) (omega (arith, free-grows i n (omega arith), free-push (itemOn t n) (behind n))))
+      (eq-or-lt-of-le h)
+
+  -- 64 items have at most 32 positions
+  free-few : (i : ℕ) → Postfix t → i ≤ t .count → free (behind i) ≤ 33
+  free-few i p h = omega (arith, p .few, p .one, free-grows i (t .count) h, counted-free (t .count) (behind (t .count)) (behind-counted (t .count) p (omega arith)))
+
+  -- so a new one has a place
+  pub free-room : (i : ℕ) → Postfix t → i < t .count → place (t .kind) i ≡ 1 → free (behind i) < 33
+  free-room i p h k =
+      let more = ap free (behind-more i ∙ ap (λ (n : ℕ). push (itemOf n (place (t .set) i)) (behind i)) k) in
+      omega (arith, free-few (i + 1) p (omega arith))
+
+  pub pattern-few : Postfix t → size (patternOf (itemsOn t)) ≤ 32
+  pattern-few p = omega (arith, free-few (t .count) p (omega arith), ap free (sole (behind (t .count)) (p .one)))

@@ -1,0 +1,3 @@
+pub mod Expression
+pub mod Items
+pub mod Positions
