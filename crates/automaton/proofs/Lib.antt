@@ -1,5 +1,4 @@
 -- Laws of the numbered automaton, and its cases.
-pub mod Cases
 pub mod Moves
 pub mod Growth
 pub mod Turns

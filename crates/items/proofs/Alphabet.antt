@@ -8,7 +8,7 @@ use lib.Bits.{bitAnd}
 use Rattle.masks.specs.Mask.{Sub}
 use Rattle.masks.proofs.Members.{in-and, in-and-left, in-and-right}
 use Rattle.masks.proofs.Sets.{sub-antisymm}
-use Rattle.items.specs.Items.{strange}
+use Rattle.items.specs.Refusals.{strange}
 
 pub not-strange : (alphabet m : ℕ) → (strange alphabet m ≡ false) ↔ Sub m alphabet
 not-strange alphabet m = (

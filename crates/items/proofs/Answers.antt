@@ -8,7 +8,7 @@ use borrow.Author.Tests.{eq-eqb, ne-eqb}
 use lib.ListN.{length}
 use Rattle.fields.specs.Bits.{fieldAt}
 use Rattle.plan.specs.Checks.{first}
-use Rattle.items.specs.Items.{Spot, Read, faulty, upTo, notOne, bytes, trailing, leftovers, refusalOf, itemsOf, read, itemsRefusal}
+use Rattle.items.specs.Refusals.{Spot, Read, faulty, upTo, notOne, bytes, trailing, leftovers, refusalOf, itemsOf, read, itemsRefusal}
 use Rattle.items.specs.Tables.{answered, itemsReadOf}
 
 -- ---- refusal 15, by the bytes behind the last item

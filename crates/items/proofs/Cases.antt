@@ -10,7 +10,7 @@ use Rattle.plan.proofs.Cases.{P, Fields, packed, agree}
 use Rattle.regex.specs.Expression.{Expression, seq, alt, star}
 use Rattle.regex.specs.Expression as expression
 use Rattle.regex.specs.Items.{pushAll, patternOf}
-use Rattle.items.specs.Items.{itemAt, read, itemsIn, itemsRefusal}
+use Rattle.items.specs.Refusals.{itemAt, read, itemsIn, itemsRefusal}
 
 -- ---- patterns from their items
 

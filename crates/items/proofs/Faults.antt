@@ -9,7 +9,7 @@ use borrow.Author.Tests.{eqb-true, ltb-false, le-ltb}
 use lib.Dec.{ltb, eqb}
 use Rattle.plan.specs.Checks.{orElse, first}
 use Rattle.regex.specs.Items.{Item, empty, events, sequence, choice, repeat, arity}
-use Rattle.items.specs.Items.{cut, kindAt, setAt, itemOf, itemAt, width, strange, faults}
+use Rattle.items.specs.Refusals.{cut, kindAt, setAt, itemOf, itemAt, width, strange, faults}
 use Rattle.items.specs.Tables.{kindOf, setOf}
 
 -- ---- items and their kinds

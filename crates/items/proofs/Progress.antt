@@ -1,8 +1,7 @@
 -- From the first items to one more: what the code keeps of them. Assumes nothing.
 use mathlib.Core.Path.{_≡_, refl, sym, ap, _∙_}
-use mathlib.Core.Bool.{Bool, true, false, true≢false}
 use mathlib.Core.List.{List, [], _∷_, _++_, map}
-use mathlib.Core.Option.{Option, none, some}
+use mathlib.Core.Option.{Option, none, some, Option·none-ne-some}
 use Prim.Native.Nat.{ℕ, zero, suc, _+_, _-_, _*_, _≤_, _<_}
 use native.Mathlib.Numerals.{add-one}
 use native.Mathlib.Omega.{arith}
@@ -10,40 +9,35 @@ use lib.ListN.{length, set, length-append}
 use lib.ListN.{length-map}
 use Rattle.rows.specs.Rows.{padded}
 use Rattle.rows.proofs.Rows.{map-append, padded-push}
-use Rattle.plan.specs.declared.Outcome.{Outcome}
 use Rattle.plan.specs.declared.Outcome.the-variants.{Accepted, Refused}
 use Rattle.plan.specs.Checks.{first}
+use Rattle.plan.specs.Reading.{outcomeOf}
+use Rattle.plan.proofs.Ends.{outcome-refused, outcome-accepted}
 use Rattle.regex.specs.Items.{Item, arity, operands, push}
 use Rattle.regex.proofs.Operands.{push-none, push-more, push-length}
-use Rattle.items.specs.Items.{Spot, Read, faulty, upTo, kindAt, itemAt, width, faults, depth, pointOf, past, judged, oneMore, read}
+use Rattle.items.specs.Refusals.{Spot, Read, faulty, upTo, kindAt, itemAt, width, faults, depth, pointOf, past, judged, oneMore, read}
 use Rattle.items.specs.Tables.{kindOf, setOf, foundAs, added, scanOf}
 use Rattle.items.proofs.Faults.{arity-kind, kind-item, width-item, faultless}
 
 -- ---- what the code keeps, read back
-
-isAccepted : Outcome → Bool
-isAccepted Accepted = true
-isAccepted (Refused n) = false
-
-accepted-refused : (n : ℕ) → Accepted ≡ Refused n → ⊥
-unfolding isAccepted
-accepted-refused n e = true≢false (ap isAccepted e)
 
 pub scan-faulty : (x : Read) (n : ℕ) → scanOf x .outcome ≡ Refused n → x ≡ faulty n
 scan-faulty (faulty m) n e = cc
 scan-faulty (upTo s) n e = cc
 
 pub scan-up-to : (x : Read) → scanOf x .outcome ≡ Accepted → (s : Spot) × (x ≡ upTo s)
-scan-up-to (faulty m) e = absurd (accepted-refused m (sym e))
+scan-up-to (faulty m) e = absurd (Option·none-ne-some m (sym (outcome-accepted (some m) e)))
 scan-up-to (upTo s) e = (s, refl)
 
+found-outcome : (o : Option ℕ) (i : Item) → foundAs o i .outcome ≡ outcomeOf o
+found-outcome none i = refl
+found-outcome (some n) i = refl
+
 pub found-refused : (o : Option ℕ) (i : Item) (n : ℕ) → foundAs o i .outcome ≡ Refused n → o ≡ some n
-found-refused none i n e = absurd (accepted-refused n e)
-found-refused (some m) i n e = cc
+found-refused o i n e = outcome-refused o n (sym (found-outcome o i) ∙ e)
 
 pub found-accepted : (o : Option ℕ) (i : Item) → foundAs o i .outcome ≡ Accepted → o ≡ none
-found-accepted none i e = refl
-found-accepted (some m) i e = absurd (accepted-refused m (sym e))
+found-accepted o i e = outcome-accepted o (sym (found-outcome o i) ∙ e)
 
 module _ (b : List ℕ) (alphabet : ℕ) where
   read-more : (i : ℕ) → read b alphabet (i + 1) ≡ oneMore b alphabet (read b alphabet i)

@@ -1,3 +1,3 @@
-pub mod Items
+pub mod Refusals
 pub mod Tables
 pub mod Postfix

@@ -11,7 +11,7 @@ use Rattle.items.specs.declared.Items.{Items}
 use Rattle.items.specs.declared.Found.{Found}
 use Rattle.items.specs.declared.Scan.{Scan}
 use Rattle.items.specs.declared.ItemsRead.{ItemsRead}
-use Rattle.items.specs.Items.{Point, Read, faulty, upTo, itemOf, itemAt, width, faults, depth, itemsIn, itemsRefusal}
+use Rattle.items.specs.Refusals.{Point, Read, faulty, upTo, itemOf, itemAt, width, faults, depth, itemsIn, itemsRefusal}
 
 abbrev pub kindOf : Item → ℕ
 kindOf empty = 0

@@ -5,7 +5,7 @@ ghost use Prim.Native.Nat.{_+_, _*_, _≤_, _<_};
 ghost use mathlib.Core.List.{[]};
 ghost use mathlib.Core.Option.{some};
 ghost use Rattle.regex.specs.Items.{empty, arity};
-ghost use Rattle.items.specs.Items.{faulty, cut, itemOf, width, strange, read};
+ghost use Rattle.items.specs.Refusals.{faulty, cut, itemOf, width, strange, read};
 ghost use Rattle.items.specs.Tables.{itemTable, foundAs, found, added, scanOf, answered, itemsReadOf};
 
 // Items by value: the kind and the set of each, 0 where the kind has no set.
@@ -130,19 +130,12 @@ pub fn blank() -> Items
     }
 }
 
-// A kind as a number to reckon with: the contract has the range.
-fn byte(n: u8) -> usize
-    ensures { λ r. ⌜ (r ≡ n) × (r < 256) ⌝ }
-{
-    n as usize
-}
-
 // With one item more.
 fn with_item(s: Scan, f: Found) -> Scan
     requires { ⌜ (s .items .count < 64) × (s .at ≤ 4096) × (f .kind ≤ 4) × (arity (itemOf (f .kind) 0) ≤ s .depth) × (s .depth ≤ 64) ⌝ }
     ensures { λ r. ⌜ r ≡ added s f ⌝ }
 {
-    let kind = byte(f.kind);
+    let kind = f.kind as usize;
     let mut items = s.items;
     let i = items.count;
     items.kind[i] = f.kind;

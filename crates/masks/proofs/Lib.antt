@@ -3,3 +3,4 @@ pub mod Members
 pub mod Sets
 pub mod Counts
 pub mod Images
+pub mod Choices

@@ -9,19 +9,15 @@ use Rattle.plan.specs.declared.Outcome.the-variants.{Accepted, Refused}
 use Rattle.plan.specs.Checks.{first, orElse}
 use Rattle.plan.specs.Refusals.{order}
 use Rattle.plan.specs.Reading as plan
-use Rattle.plan.proofs.Tests.{first-append}
+use Rattle.plan.proofs.Tests.{or-else-none, first-append}
 use Rattle.plan.proofs.Ends.{order-none, reading-is, outcome-refused, outcome-accepted}
 use Rattle.plan.proofs.Ranges.{framed}
-use Rattle.items.specs.Items.{itemsIn, itemsRefusal}
+use Rattle.items.specs.Refusals.{itemsIn, itemsRefusal}
 use Rattle.items.specs.Tables as items
 use Rattle.pattern.specs.Refusals.{badItems, readable}
 use Rattle.pattern.specs.Reading.{accepted, refused, answered, patternReadOf}
 
 -- ---- the checks in their order
-
-pub or-else-none : (x : Option ℕ) → orElse x none ≡ x
-or-else-none none = refl
-or-else-none (some n) = refl
 
 pub readable-parts : (b : List ℕ) → first readable b ≡ orElse (first order b) (badItems b)
 unfolding first

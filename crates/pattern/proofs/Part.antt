@@ -12,7 +12,7 @@ use Rattle.plan.specs.declared.Outcome.the-variants.{Accepted, Refused}
 use Rattle.plan.specs.Checks.{refuse, first, orElse}
 use Rattle.plan.specs.Refusals.{order}
 use Rattle.plan.specs.Reading.{outcomeOf}
-use Rattle.plan.proofs.Tests.{first-append}
+use Rattle.plan.proofs.Tests.{both-none, or-else-none, first-append}
 use Rattle.plan.proofs.Ends.{outcome-refused, outcome-accepted}
 use Rattle.plan.proofs.Legality.{legal}
 use Rattle.items.specs.Tables.{itemTable}
@@ -20,7 +20,7 @@ use Rattle.items.specs.Postfix.{Postfix}
 use Rattle.items.proofs.Kept.{items-postfix, items-bytes}
 use Rattle.pattern.specs.Refusals.{rest, itemsOfPlan, badItems, readable, tooManyStates, acceptable, partUnder, patternPart}
 use Rattle.pattern.specs.Reading.{answered, patternReadOf}
-use Rattle.pattern.proofs.Order.{or-else-none, readable-parts}
+use Rattle.pattern.proofs.Order.{readable-parts}
 
 -- ---- what the reader's answer tells
 
@@ -36,10 +36,6 @@ module _ (b : List ℕ) where
   pub read-accepted : patternReadOf b .reading .outcome ≡ Accepted → first readable b ≡ none
   unfolding patternReadOf
   read-accepted e = outcome-accepted (first readable b) (sym (outcome-is (first readable b) b) ∙ e)
-
-both-none : (x y : Option ℕ) → orElse x y ≡ none → (x ≡ none) × (y ≡ none)
-both-none none y e = (refl, e)
-both-none (some n) y e = (e, cc)
 
 module _ (b : List ℕ) (passed : first readable b ≡ none) where
   parts : (first order b ≡ none) × (badItems b ≡ none)

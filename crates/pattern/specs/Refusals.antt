@@ -9,7 +9,7 @@ use Rattle.plan.specs.Checks.{Check, refuse, first}
 use Rattle.plan.specs.Refusals.{order}
 use Rattle.regex.specs.Expression.{Expression}
 use Rattle.regex.specs.Items.{Item, patternOf}
-use Rattle.items.specs.Items.{itemsIn, itemsRefusal}
+use Rattle.items.specs.Refusals.{itemsIn, itemsRefusal}
 use Rattle.automaton.specs.Automaton.{statesOf}
 
 -- "The pattern starts on the next byte, and the reader of items receives the plan from that byte on."

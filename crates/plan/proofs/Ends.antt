@@ -25,7 +25,7 @@ use Rattle.plan.specs.Nodes.{owners, jobOf, exitOf, total}
 use Rattle.plan.specs.Refusals.{sizesWrong, wrongSizes, stray, strayEnds, apart, splitEnds, leaving, exitLeft, unknown, noChannel, arcs, links, framing, ends, shape, order}
 use Rattle.plan.specs.Bounds.{OwnersBelow, faultsOf, boundsOf, Tabled}
 use Rattle.plan.specs.Reading.{outcomeOf, answered, readingOf}
-use Rattle.plan.proofs.Tests.{or-none, first-append, first-said, any-both}
+use Rattle.plan.proofs.Tests.{both-none, or-none, first-append, first-said, any-both}
 use Rattle.plan.proofs.Nodes.{owners-below}
 use Rattle.plan.proofs.Ranges.{Framed}
 
@@ -77,13 +77,9 @@ order-refused b n e = order-parts b ∙ ap (λ (o : Option ℕ). orElse o (first
 pub order-past : (b : List ℕ) → first framing b ≡ none → first order b ≡ first shape (planOf b)
 order-past b e = order-parts b ∙ ap (λ (o : Option ℕ). orElse o (first shape (planOf b))) e
 
-or-else-none : (x y : Option ℕ) → orElse x y ≡ none → (x ≡ none) × (y ≡ none)
-or-else-none none y e = (refl, e)
-or-else-none (some n) y e = (e, cc)
-
 -- where no refusal applies
 pub order-none : (b : List ℕ) → first order b ≡ none → (first framing b ≡ none) × (first shape (planOf b) ≡ none)
-order-none b e = or-else-none (first framing b) (first shape (planOf b)) (sym (order-parts b) ∙ e)
+order-none b e = both-none (first framing b) (first shape (planOf b)) (sym (order-parts b) ∙ e)
 
 pub reading-is : (b : List ℕ) (o : Option ℕ) → first order b ≡ o → readingOf b ≡ answered o b
 unfolding readingOf

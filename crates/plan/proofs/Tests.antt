@@ -32,6 +32,14 @@ module _ {A : Type 0} (n : ℕ) (test : A → Bool) (cs : List (Check A)) (a : A
       go true h e = (cc, cc)
       go false h e = (h, e)
 
+pub both-none : (x y : Option ℕ) → orElse x y ≡ none → (x ≡ none) × (y ≡ none)
+both-none none y e = (refl, e)
+both-none (some n) y e = (e, cc)
+
+pub or-else-none : (x : Option ℕ) → orElse x none ≡ x
+or-else-none none = refl
+or-else-none (some n) = refl
+
 or-else-assoc : (x y z : Option ℕ) → orElse (orElse x y) z ≡ orElse x (orElse y z)
 or-else-assoc none y z = refl
 or-else-assoc (some n) y z = refl

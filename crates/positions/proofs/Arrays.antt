@@ -14,7 +14,7 @@ use Rattle.rows.specs.Rows.{row, place}
 use Rattle.regex.proofs.Stack.{Operand as Masks}
 use Rattle.positions.specs.declared.Operand.{Operand}
 use Rattle.positions.specs.declared.Stack.{Stack}
-use Rattle.positions.specs.Drafts.{nothing, operandOf, listed, operandsIn, Pushed, gained}
+use Rattle.positions.specs.Drafts.{nothing, operandOf, listed, operandsIn, Pushed, gains}
 
 -- ---- the stack
 
@@ -49,9 +49,9 @@ listed-length xs (suc n) = ap suc (listed-length xs n)
 -- ---- rows
 
 -- the masks that an array keeps gain the set x
-pub row-gains : (n : ℕ) (xs : List ℕ) (f g : ℕ → ℕ) (m k x y : ℕ) → xs ≡ row n f → m ≡ k → x ≡ y → ((p : ℕ) → g p ≡ gained f k y p) → row n (gained (place xs) m x) ≡ row n g
+pub row-gains : (n : ℕ) (xs : List ℕ) (f g : ℕ → ℕ) (m k x y : ℕ) → xs ≡ row n f → m ≡ k → x ≡ y → ((p : ℕ) → g p ≡ gains f k y p) → row n (gains (place xs) m x) ≡ row n g
 row-gains n xs f g m k x y e u v h =
-    rw (e, u, v) (row-ext (gained (place (row n f)) k y) g n (λ p l. ap (λ (z : ℕ). bitOr z (cond (has k p) y 0)) (row-at f n p 0 l) ∙ sym (h p)))
+    rw (e, u, v) (row-ext (gains (place (row n f)) k y) g n (λ p l. ap (λ (z : ℕ). bitOr z (cond (has k p) y 0)) (row-at f n p 0 l) ∙ sym (h p)))
 
 -- or stay as they are
 pub row-stays : (n : ℕ) (xs : List ℕ) (f g : ℕ → ℕ) → xs ≡ row n f → ((p : ℕ) → g p ≡ f p) → xs ≡ row n g

@@ -13,10 +13,10 @@ use Rattle.regex.specs.Positions.{size}
 use Rattle.regex.proofs.Operands.{free}
 use Rattle.regex.proofs.Stack as stack
 use Rattle.regex.proofs.Stack.{Operand as Masks, masks, operandAt, follows, holdings, bothOf, eitherOf, manyOf}
-use Rattle.items.specs.Items.{itemOf}
+use Rattle.items.specs.Refusals.{itemOf}
 use Rattle.positions.specs.declared.Operand.{Operand}
 use Rattle.positions.specs.declared.Draft.{Draft}
-use Rattle.positions.specs.Drafts.{nothing, operandOf, listed, operandsIn, Pushed, gained, DraftOf, Takes}
+use Rattle.positions.specs.Drafts.{nothing, operandOf, listed, operandsIn, Pushed, gains, DraftOf, Takes}
 use Rattle.positions.proofs.Arrays.{stack-push, listed-top, listed-length, row-gains, row-stays}
 
 -- ---- the operands of a draft are as many as those of its items
@@ -53,18 +53,18 @@ module _ (d r : Draft) (o : Operand) (h : d .stack .depth < 64) (p : Pushed (d .
     stack = laid st d r b (d .stack .depth) o h p _ (masks st) e (b .stack);
     count = count ∙ b .count ∙ sym (stack.free-empty st);
     after = row-stays 33 (r .after) (follows st) _ (after ∙ b .after) (stack.follows-empty st);
-    holding = row-stays 32 (r .holding) (holdings st) _ (holding ∙ b .holding) (stack.holdings-empty st);
+    holding = row-stays 33 (r .holding) (holdings st) _ (holding ∙ b .holding) (stack.holdings-empty st);
   }
 
   pub events-taken : (m at : ℕ) → at ≡ 2 ^ d .count → operandOf o ≡ record { null = false; first = at; last = at }
-      → r .count ≡ d .count + 1 → r .after ≡ d .after → r .holding ≡ row 32 (gained (place (d .holding)) m at) → Takes (events m) d r
+      → r .count ≡ d .count + 1 → r .after ≡ d .after → r .holding ≡ row 33 (gains (place (d .holding)) m at) → Takes (events m) d r
   events-taken m at w e count after holding st b =
       let n : at ≡ 2 ^ free st = w ∙ ap (λ (k : ℕ). 2 ^ k) (b .count) in record {
         places = places st d r b (d .stack .depth) o h p;
         stack = laid st d r b (d .stack .depth) o h p _ (masks st) (e ∙ ap (λ (k : ℕ). record { null = false; first = k; last = k }) n) (b .stack);
         count = count ∙ ap (λ (k : ℕ). k + 1) (b .count);
         after = row-stays 33 (r .after) (follows st) _ (after ∙ b .after) (stack.follows-events m st);
-        holding = holding ∙ row-gains 32 (d .holding) (holdings st) (holdings (push (events m) st)) m m at (2 ^ free st) (b .holding) refl n (stack.holdings-events m st);
+        holding = holding ∙ row-gains 33 (d .holding) (holdings st) (holdings (push (events m) st)) m m at (2 ^ free st) (b .holding) refl n (stack.holdings-events m st);
       }
 
 -- ---- one or two operands are taken
@@ -79,7 +79,7 @@ module _ (d r : Draft) (o : Operand) (h : d .stack .depth ≤ 64) where
       (one .0, other .0, other .1)
 
   pub sequence-taken : 2 ≤ d .stack .depth → Pushed (d .stack) (d .stack .depth - 2) o (r .stack) → operandOf o ≡ bothOf (older d) (newer d)
-      → r .count ≡ d .count → r .after ≡ row 33 (gained (place (d .after)) (older d .last) (newer d .first)) → r .holding ≡ d .holding → Takes sequence d r
+      → r .count ≡ d .count → r .after ≡ row 33 (gains (place (d .after)) (older d .last) (newer d .first)) → r .holding ≡ d .holding → Takes sequence d r
   sequence-taken two p e count after holding [] b = absurd (omega (arith, draft-depth _ d b))
   sequence-taken two p e count after holding (y ∷ []) b = absurd (omega (arith, draft-depth _ d b))
   sequence-taken two p e count after holding (y ∷ x ∷ st) b =
@@ -89,7 +89,7 @@ module _ (d r : Draft) (o : Operand) (h : d .stack .depth ≤ 64) where
         stack = laid _ d r b (d .stack .depth - 2) o n p _ (masks st) (e ∙ ap₂ bothOf (t .1) (t .0)) (t .2);
         count = count ∙ b .count ∙ sym (stack.free-sequence y x st);
         after = after ∙ row-gains 33 (d .after) (follows (y ∷ x ∷ st)) _ _ _ _ _ (b .after) (ap (λ (m : Masks). m .last) (t .1)) (ap (λ (m : Masks). m .first) (t .0)) (stack.follows-sequence y x st);
-        holding = row-stays 32 (r .holding) (holdings (y ∷ x ∷ st)) _ (holding ∙ b .holding) (stack.holdings-sequence y x st);
+        holding = row-stays 33 (r .holding) (holdings (y ∷ x ∷ st)) _ (holding ∙ b .holding) (stack.holdings-sequence y x st);
       }
 
   pub choice-taken : 2 ≤ d .stack .depth → Pushed (d .stack) (d .stack .depth - 2) o (r .stack) → operandOf o ≡ eitherOf (older d) (newer d)
@@ -103,11 +103,11 @@ module _ (d r : Draft) (o : Operand) (h : d .stack .depth ≤ 64) where
         stack = laid _ d r b (d .stack .depth - 2) o n p _ (masks st) (e ∙ ap₂ eitherOf (t .1) (t .0)) (t .2);
         count = count ∙ b .count ∙ sym (stack.free-choice y x st);
         after = row-stays 33 (r .after) (follows (y ∷ x ∷ st)) _ (after ∙ b .after) (stack.follows-choice y x st);
-        holding = row-stays 32 (r .holding) (holdings (y ∷ x ∷ st)) _ (holding ∙ b .holding) (stack.holdings-choice y x st);
+        holding = row-stays 33 (r .holding) (holdings (y ∷ x ∷ st)) _ (holding ∙ b .holding) (stack.holdings-choice y x st);
       }
 
   pub repeat-taken : 1 ≤ d .stack .depth → Pushed (d .stack) (d .stack .depth - 1) o (r .stack) → operandOf o ≡ manyOf (newer d)
-      → r .count ≡ d .count → r .after ≡ row 33 (gained (place (d .after)) (newer d .last) (newer d .first)) → r .holding ≡ d .holding → Takes repeat d r
+      → r .count ≡ d .count → r .after ≡ row 33 (gains (place (d .after)) (newer d .last) (newer d .first)) → r .holding ≡ d .holding → Takes repeat d r
   repeat-taken some p e count after holding [] b = absurd (omega (arith, draft-depth _ d b))
   repeat-taken some p e count after holding (x ∷ st) b =
       let n : d .stack .depth - 1 < 64 = omega arith in

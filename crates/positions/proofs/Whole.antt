@@ -16,7 +16,7 @@ use Rattle.regex.specs.Items.{push, operands, newest, patternOf}
 use Rattle.regex.specs.Positions.{size, first, after, final}
 use Rattle.regex.proofs.Operands.{push-none, push-more, push-length, free, free-push, Counted, counted-none, counted-push, counted-free}
 use Rattle.regex.proofs.Stack.{Operand as Masks, operandAt, follows, holdings, holdings-one}
-use Rattle.items.specs.Items.{itemOf}
+use Rattle.items.specs.Refusals.{itemOf}
 use Rattle.items.specs.Tables.{itemOn, itemsOn}
 use Rattle.items.specs.Postfix.{Postfix}
 use Rattle.items.specs.declared.Items.{Items}
@@ -45,7 +45,7 @@ table-made d r m w count links holding last e b =
     λ i. record {
       count = (count ∙ b .count ∙ n) i;
       after = (links ∙ ap₂ (λ xs v. set xs 0 v) (b .after) (ap (λ (k : Masks). k .first) whole) ∙ begun e) i;
-      holding = row-stays 32 (r .holding) (holdings (e ∷ [])) _ (holding ∙ b .holding) (λ p. sym (holdings-one e p)) i;
+      holding = row-stays 33 (r .holding) (holdings (e ∷ [])) _ (holding ∙ b .holding) (λ p. sym (holdings-one e p)) i;
       last = (last ∙ ended e m whole) i;
     }
 

@@ -3,7 +3,7 @@
 use mathlib.Core.Path.{_≡_}
 use mathlib.Core.Bool.{false, cond}
 use mathlib.Core.List.{List, [], _∷_}
-use Prim.Native.Nat.{ℕ, zero, suc, _+_}
+use Prim.Native.Nat.{ℕ, zero, suc, _+_, _-_}
 use lib.Bits.{bitOr}
 use lib.ListN.{length, getD, set}
 use Rattle.masks.specs.Mask.{has}
@@ -14,9 +14,10 @@ use Rattle.regex.proofs.Operands.{free}
 use Rattle.regex.proofs.Stack.{Operand as Masks, masks, follows, holdings}
 use Rattle.positions.specs.declared.Operand.{Operand}
 use Rattle.positions.specs.declared.Stack.{Stack}
+use Rattle.positions.specs.declared.Pair.{Pair}
 use Rattle.positions.specs.declared.Draft.{Draft}
 use Rattle.positions.specs.declared.Positions.{Positions}
-use Rattle.positions.specs.Table.{positionTable}
+use Rattle.positions.specs.Tables.{positionTable}
 
 -- ---- the stack
 
@@ -36,6 +37,10 @@ listed xs (suc n) = operandOf (getD xs n nothing) ∷ listed xs n
 abbrev pub operandsIn : Stack → List Masks
 operandsIn s = listed (s .operands) (s .depth)
 
+-- the two newest of a stack
+abbrev pub newestTwo : Stack → Pair
+newestTwo s = record { older = getD (s .operands) (s .depth - 2) nothing; newer = getD (s .operands) (s .depth - 1) nothing }
+
 -- r has the first n operands of s, and o
 abbrev pub Pushed : Stack → ℕ → Operand → Stack → Type 0
 Pushed s n o r = (r .depth ≡ n + 1) × (r .operands ≡ set (s .operands) n o)
@@ -43,8 +48,8 @@ Pushed s n o r = (r .depth ≡ n + 1) × (r .operands ≡ set (s .operands) n o)
 -- ---- the masks
 
 -- what f keeps of p; the members of m gain the set x
-abbrev pub gained : (ℕ → ℕ) → ℕ → ℕ → ℕ → ℕ
-gained f m x p = bitOr (f p) (cond (has m p) x 0)
+abbrev pub gains : (ℕ → ℕ) → ℕ → ℕ → ℕ → ℕ
+gains f m x p = bitOr (f p) (cond (has m p) x 0)
 
 -- d is what the items build that leave the operands st
 pub record DraftOf (st : List Expression) (d : Draft) : Type 0 where
@@ -52,7 +57,7 @@ pub record DraftOf (st : List Expression) (d : Draft) : Type 0 where
   pub stack : operandsIn (d .stack) ≡ masks st
   pub count : d .count ≡ free st
   pub after : d .after ≡ row 33 (follows st)
-  pub holding : d .holding ≡ row 32 (holdings st)
+  pub holding : d .holding ≡ row 33 (holdings st)
 
 -- r is d with the item i more
 abbrev pub Takes : Item → Draft → Draft → Type 0

@@ -7,11 +7,11 @@ ghost use Prim.Native.Nat.{_≤_, _<_};
 ghost use Rattle.rows.specs.Rows.{row, place};
 ghost use Rattle.regex.specs.Items.{empty, events, sequence, choice, repeat, arity, patternOf};
 ghost use Rattle.regex.proofs.Stack.{bothOf, eitherOf};
-ghost use Rattle.items.specs.Items.{itemOf};
+ghost use Rattle.items.specs.Refusals.{itemOf};
 ghost use Rattle.items.specs.Tables.{itemsOn};
 ghost use Rattle.items.specs.Postfix.{Postfix};
-ghost use Rattle.positions.specs.Table.{positionTable};
-ghost use Rattle.positions.specs.Drafts.{operandOf, Pushed, gained, DraftOf, Takes, TableOf};
+ghost use Rattle.positions.specs.Tables.{positionTable};
+ghost use Rattle.positions.specs.Drafts.{operandOf, newestTwo, Pushed, gains, DraftOf, Takes, TableOf};
 
 // The positions of a pattern: 0 is the beginning.
 pub struct Positions {
@@ -20,7 +20,7 @@ pub struct Positions {
     // what may follow each
     pub after: [u64; 33],
     // those whose set holds each event
-    pub holding: [u64; 32],
+    pub holding: [u64; 33],
     // those at which a string may end
     pub last: u64,
 }
@@ -44,7 +44,7 @@ struct Draft {
     // the number of the next position
     count: usize,
     after: [u64; 33],
-    holding: [u64; 32],
+    holding: [u64; 33],
 }
 
 // The set `m` where the test holds, the empty one where not.
@@ -54,30 +54,18 @@ fn only(test: bool, m: u64) -> u64
     if test { m } else { 0 }
 }
 
-// The positions of `to` may follow those of `from` too.
-fn linked(after: [u64; 33], from: u64, to: u64) -> [u64; 33]
-    ensures { λ r. ⌜ r ≡ row 33 (gained (place after) from to) ⌝ }
+// A row of sets, in which each member of `m` gains the set `x`: what may follow each position, or which positions hold each
+// event.
+fn gained(old: [u64; 33], m: u64, x: u64) -> [u64; 33]
+    ensures { λ r. ⌜ r ≡ row 33 (gains (place old) m x) ⌝ }
 {
-    let mut links = [0u64; 33];
+    let mut sets = [0u64; 33];
     let mut p: usize = 0;
     while p < 33 {
-        links[p] = after[p] | only(masks::has(from, p as u32), to);
+        sets[p] = old[p] | only(masks::has(m, p as u32), x);
         p += 1;
     }
-    links
-}
-
-// The position in `at` holds the events of `set`.
-fn held(holding: [u64; 32], set: u64, at: u64) -> [u64; 32]
-    ensures { λ r. ⌜ r ≡ row 32 (gained (place holding) set at) ⌝ }
-{
-    let mut holders = [0u64; 32];
-    let mut e: usize = 0;
-    while e < 32 {
-        holders[e] = holding[e] | only(masks::has(set, e as u32), at);
-        e += 1;
-    }
-    holders
+    sets
 }
 
 // A string of the older operand, then one of the newer.
@@ -128,7 +116,7 @@ fn blank() -> Draft
         },
         count: 1,
         after: [0; 33],
-        holding: [0; 32],
+        holding: [0; 33],
     }
 }
 
@@ -173,7 +161,26 @@ fn take_events(d: Draft, set: u32) -> Draft
         stack: pushed(stack, depth, one),
         count: d.count + 1,
         after: after,
-        holding: held(holding, set as u64, at),
+        holding: gained(holding, set as u64, at),
+    }
+}
+
+// The two newest operands.
+struct Pair {
+    older: Operand,
+    newer: Operand,
+}
+
+fn newest_two(s: Stack) -> Pair
+    requires { ⌜ (2 ≤ s .depth) × (s .depth ≤ 64) ⌝ }
+    ensures { λ r. ⌜ r ≡ newestTwo s ⌝ }
+{
+    let depth = s.depth;
+    let older = s.operands[depth - 2];
+    let newer = s.operands[depth - 1];
+    Pair {
+        older: older,
+        newer: newer,
     }
 }
 
@@ -184,14 +191,15 @@ fn take_sequence(d: Draft) -> Draft
 {
     let stack = d.stack;
     let depth = stack.depth;
-    let older = stack.operands[depth - 2];
-    let newer = stack.operands[depth - 1];
+    let two = newest_two(stack);
+    let older = two.older;
+    let newer = two.newer;
     let after = d.after;
     let holding = d.holding;
     Draft {
         stack: pushed(stack, depth - 2, both(older, newer)),
         count: d.count,
-        after: linked(after, older.last, newer.first),
+        after: gained(after, older.last, newer.first),
         holding: holding,
     }
 }
@@ -203,12 +211,11 @@ fn take_choice(d: Draft) -> Draft
 {
     let stack = d.stack;
     let depth = stack.depth;
-    let older = stack.operands[depth - 2];
-    let newer = stack.operands[depth - 1];
+    let two = newest_two(stack);
     let after = d.after;
     let holding = d.holding;
     Draft {
-        stack: pushed(stack, depth - 2, either(older, newer)),
+        stack: pushed(stack, depth - 2, either(two.older, two.newer)),
         count: d.count,
         after: after,
         holding: holding,
@@ -229,7 +236,7 @@ fn take_repeat(d: Draft) -> Draft
     Draft {
         stack: pushed(stack, depth - 1, one),
         count: d.count,
-        after: linked(after, one.last, one.first),
+        after: gained(after, one.last, one.first),
         holding: holding,
     }
 }

@@ -12,7 +12,7 @@ use Rattle.masks.proofs.Members.{digit-self, in-and, in-and-left, in-and-right,
 use Rattle.masks.proofs.Images.{gather-in, in-gather}
 use Rattle.regex.specs.Expression.{Expression, Language}
 use Rattle.regex.specs.Positions.{null, size, last, follow, holding, after, start, step, final, accepts, reached}
-use Rattle.regex.proofs.Members.{in-cond, cond-in, some-test, test-some}
+use Rattle.masks.proofs.Choices.{in-cond, cond-in, some-test, test-some}
 use Rattle.regex.proofs.Numbers.{num, num-ge, num-lt, num-inj, in-first, first-in, in-last, last-in, in-follow, follow-in, in-holding, holding-in}
 use Rattle.regex.proofs.Places.{Pos, Follow, Place, Goes, Ends, Step, Reach, Accepts, Start, glushkov-places}
 

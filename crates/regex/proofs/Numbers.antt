@@ -9,7 +9,7 @@ use Rattle.masks.specs.Mask.{In, has}
 use Rattle.masks.proofs.Members.{digit-self, has-in, in-has, in-or, in-or-left, in-or-right, in-single, not-in-none}
 use Rattle.regex.specs.Expression.{Expression, eps, set, seq, alt, star}
 use Rattle.regex.specs.Positions.{null, size, first, last, follow, holding}
-use Rattle.regex.proofs.Members.{in-cond, cond-in}
+use Rattle.masks.proofs.Choices.{in-cond, cond-in}
 use Rattle.regex.proofs.Places.{Pos, at, First, Last, Follow}
 
 abbrev pub num : ℕ → (r : Expression) → Pos r → ℕ

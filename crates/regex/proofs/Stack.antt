@@ -10,7 +10,7 @@ use Rattle.masks.specs.Mask.{has}
 use Rattle.regex.specs.Expression.{Expression}
 use Rattle.regex.specs.Items.{empty, events, sequence, choice, repeat, push}
 use Rattle.regex.specs.Positions.{null, size, first, last, follow, holding}
-use Rattle.regex.proofs.Members.{or-assoc}
+use Rattle.masks.proofs.Choices.{or-assoc}
 use Rattle.regex.proofs.Operands.{free}
 
 -- what an item needs to know of an operand

@@ -1,9 +1,14 @@
--- Strings that follow one another, `Followed`, and joined strings, `Joined`: by their first event, and the empty string.
+-- Laws of strings: of no event, and those that follow one another, `Followed`, and joined strings, `Joined`: by their first event, and the empty string.
 use mathlib.Core.Path.{_≡_, refl, sym, ap, _∙_}
 use mathlib.Core.List.{List, [], _∷_, _++_, cons-ne-nil}
 use mathlib.Core.Logic.{_⊎_, inl, inr}
 use Prim.Native.Nat.{ℕ}
-use Rattle.regex.specs.Expression.{Followed, Joined, done, more}
+use Rattle.masks.proofs.Members.{not-in-none}
+use Rattle.regex.specs.Expression.{set, Language, Followed, Joined, done, more}
+
+-- "an empty set of events matches no string"
+pub no-string : (w : List ℕ) → Language (set 0) w → ⊥
+no-string w l = not-in-none (l .0) (l .1)
 
 -- ---- a string of P followed by one of Q
 

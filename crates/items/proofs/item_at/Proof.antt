@@ -13,18 +13,12 @@ use Rattle.plan.specs.Checks.{first}
 use Rattle.plan.proofs.Tests.{told}
 use Rattle.regex.specs.Items.{empty, events}
 use Rattle.items.specs.declared.Found.{Found}
-use Rattle.items.specs.Items.{cut, kindAt, setAt, itemAt, strange, faults}
+use Rattle.items.specs.Refusals.{cut, kindAt, setAt, itemAt, strange, faults}
 use Rattle.items.specs.Tables.{foundAs, found}
 use Rattle.items.proofs.Faults.{kind-cut, kind-unknown, set-cut, set-strange, set-fine, set-is, operands-short, operands-fine, kind-is}
 use borrow.Author.Needs.{needs}
 use Rattle.items.proofs.item_at.Statement.{statement}
 use Rattle.items.proofs.item_at.Tie as tie
-use Rattle.fields.proofs.events.Reads as events-reads
-use Rattle.fields.proofs.field.Reads as field-reads
-use Rattle.items.proofs.arity_of.Reads as arity-of-reads
-use Rattle.items.proofs.fault.Reads as fault-reads
-use Rattle.items.proofs.is_cut.Reads as is-cut-reads
-use Rattle.items.proofs.is_strange.Reads as is-strange-reads
 
 -- the arguments, at the place behind the first test
 abbrev bytes : tie.Else1 → List ℕ

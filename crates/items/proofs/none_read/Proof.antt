@@ -3,7 +3,6 @@ use Rattle.plan.specs.declared.Outcome.the-variants.{Refused}
 use borrow.Author.Needs.{needs}
 use Rattle.items.proofs.none_read.Statement.{statement}
 use Rattle.items.proofs.none_read.Tie as tie
-use Rattle.items.proofs.blank.Reads as blank-reads
 
 blank-requires : tie.Need-blank-requires
 blank-requires c κs = search needs

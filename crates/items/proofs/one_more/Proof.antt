@@ -9,16 +9,13 @@ use Rattle.plan.specs.Checks.{first}
 use Rattle.regex.specs.Items.{arity}
 use Rattle.items.specs.declared.Scan.{Scan}
 use Rattle.items.specs.declared.Found.{Found}
-use Rattle.items.specs.Items.{Spot, Read, upTo, itemOf, itemAt, faults, depth, pointOf, read}
+use Rattle.items.specs.Refusals.{Spot, Read, upTo, itemOf, itemAt, faults, depth, pointOf, read}
 use Rattle.items.specs.Tables.{kindOf, foundAs, found, added, scanOf}
 use Rattle.items.proofs.Faults.{arity-kind, kind-at-most}
 use Rattle.items.proofs.Progress.{scan-faulty, scan-up-to, found-refused, found-accepted, faulty-more, refused-next, read-next, enough, kept, Bounds, read-bounds}
 use borrow.Author.Needs.{needs}
 use Rattle.items.proofs.one_more.Statement.{statement}
 use Rattle.items.proofs.one_more.Tie as tie
-use Rattle.items.proofs.item_at.Reads as item-at-reads
-use Rattle.items.proofs.stopped.Reads as stopped-reads
-use Rattle.items.proofs.with_item.Reads as with-item-reads
 
 -- the arguments, and what was read, where no refusal was found so far
 abbrev start : tie.After-enum-told → tie.Start

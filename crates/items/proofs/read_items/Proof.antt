@@ -10,16 +10,13 @@ use lib.Dec.{eqb}
 use Rattle.plan.specs.declared.Outcome.the-variants.{Accepted}
 use Rattle.items.specs.declared.Scan.{Scan}
 use Rattle.items.specs.declared.ItemsRead.{ItemsRead}
-use Rattle.items.specs.Items.{Spot, Read, upTo, notOne, trailing, read}
+use Rattle.items.specs.Refusals.{Spot, Read, upTo, notOne, trailing, read}
 use Rattle.items.specs.Tables.{answered, scanOf}
 use Rattle.items.proofs.Progress.{scan-faulty, scan-up-to, Bounds, read-bounds}
 use Rattle.items.proofs.Answers.{trails-bytes, trails-bits, trails-none, answer-faulty, answer-14, answer-15, answer-items}
 use borrow.Author.Needs.{needs}
 use Rattle.items.proofs.read_items.Statement.{statement}
 use Rattle.items.proofs.read_items.Tie as tie
-use Rattle.fields.proofs.field.Reads as field-reads
-use Rattle.items.proofs.none_read.Reads as none-read-reads
-use Rattle.items.proofs.scan_items.Reads as scan-items-reads
 
 -- the arguments, and what was read, where the items had no refusal
 abbrev start : tie.After-enum-told → tie.Start

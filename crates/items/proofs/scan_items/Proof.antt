@@ -8,13 +8,11 @@ use Rattle.plan.specs.declared.Outcome.the-variants.{Accepted}
 use Rattle.regex.specs.Items.{operands}
 use Rattle.regex.proofs.Operands.{push-none}
 use Rattle.items.specs.declared.Scan.{Scan}
-use Rattle.items.specs.Items.{read}
+use Rattle.items.specs.Refusals.{read}
 use Rattle.items.specs.Tables.{itemTable, scanOf}
 use borrow.Author.Needs.{needs}
 use Rattle.items.proofs.scan_items.Statement.{statement}
 use Rattle.items.proofs.scan_items.Tie as tie
-use Rattle.items.proofs.blank.Reads as blank-reads
-use Rattle.items.proofs.one_more.Reads as one-more-reads
 
 abbrev Inv-loop : tie.InvT-loop
 Inv-loop rest alphabet count s₀ i₀ s i = (i ≤ count) × (s ≡ scanOf (read rest alphabet i))

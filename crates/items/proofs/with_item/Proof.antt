@@ -1,21 +1,15 @@
 -- `with_item` keeps one item more. Assumes nothing.
-use mathlib.Core.Path.{_≡_, ap, _∙_}
-use Prim.Native.Nat.{ℕ, _+_, _-_}
+use Prim.Native.Nat.{_+_, _-_}
 use native.Mathlib.Omega.{arith}
 use lib.ListN.{set}
 use Rattle.plan.specs.declared.Outcome.the-variants.{Accepted}
-use Rattle.regex.specs.Items.{arity}
-use Rattle.items.specs.Items.{itemOf, width}
 use Rattle.items.proofs.Faults.{width-item}
 use borrow.Author.Needs.{needs}
 use Rattle.items.proofs.with_item.Statement.{statement}
 use Rattle.items.proofs.with_item.Tie as tie
-use Rattle.items.proofs.arity_of.Reads as arity-of-reads
-use Rattle.items.proofs.byte.Reads as byte-reads
-use Rattle.items.proofs.width_of.Reads as width-of-reads
 
-byte-requires : tie.Need-byte-requires
-byte-requires c κs = search needs
+cast-kind : tie.Need-cast-kind
+cast-kind c = search needs
 
 element-write-items : tie.Need-element-write-items
 element-write-items c = search needs
@@ -33,7 +27,7 @@ width-of-requires : tie.Need-width-of-requires
 width-of-requires c κs = search needs
 
 add-t12 : tie.Need-add-t12
-add-t12 c = omega (arith, c .before .width-of .ensures, width-item (c .before .before .before .byte .result))
+add-t12 c = omega (arith, c .before .width-of .ensures, width-item (c .before .before .before .before .args .f .kind))
 
 add-t13 : tie.Need-add-t13
 add-t13 c = search needs
@@ -42,17 +36,16 @@ arity-of-requires : tie.Need-arity-of-requires
 arity-of-requires c κs = search needs
 
 sub-t15 : tie.Need-sub-t15
-sub-t15 c = let e : c .arity-of .result ≡ arity (itemOf (c .before .before .before .before .before .before .args .f .kind) 0) = c .arity-of .ensures .0 ∙ ap (λ (k : ℕ). arity (itemOf k 0)) (c .before .before .before .before .before .byte .ensures .0) in omega arith
+sub-t15 c = search needs
 
 returns : tie.Need-returns
 returns c =
     let s = c .before .before .before .before .before .before .args .s in
     let f = c .before .before .before .before .before .before .args .f in
-    let kind = c .before .before .before .before .before .byte .ensures .0 in
     λ i. record {
       outcome = Accepted;
-      at = s .at + (c .before .before .before .width-of .ensures ∙ ap width kind) i;
-      depth = s .depth + 1 - (c .arity-of .ensures .0 ∙ ap (λ (k : ℕ). arity (itemOf k 0)) kind) i;
+      at = s .at + c .before .before .before .width-of .ensures i;
+      depth = s .depth + 1 - c .arity-of .ensures .0 i;
       items = record { kind = set (s .items .kind) (s .items .count) (f .kind); set = set (s .items .set) (s .items .count) (f .set); count = s .items .count + 1 };
     }
 
@@ -60,7 +53,7 @@ pub with-item-spec : {M : Type 1} → statement M
 with-item-spec =
     tie.close
     (tie.spec
-    byte-requires
+    cast-kind
     element-write-items
     mul-items
     element-write-items-2

@@ -3,12 +3,9 @@ use mathlib.Core.Path.{_≡_, refl, ap, _∙_}
 use mathlib.Core.Bool.{not}
 use mathlib.Core.List.{List}
 use mathlib.Core.Option.{Option, none, some}
-use Prim.Native.Nat.{ℕ, suc}
-use native.Mathlib.Omega.{arith}
+use Prim.Native.Nat.{ℕ}
 use Rattle.regex.specs.Items.{patternOf}
-use Rattle.regex.specs.Positions.{size}
 use Rattle.items.specs.Tables.{itemsOn}
-use Rattle.positions.specs.declared.Positions.{Positions}
 use Rattle.positions.proofs.Whole.{pattern-few}
 use Rattle.automaton.specs.declared.States.{States}
 use Rattle.automaton.specs.Automaton.{statesOf}
@@ -17,8 +14,6 @@ use Rattle.pattern.specs.Refusals.{overLimit}
 use borrow.Author.Needs.{needs}
 use Rattle.pattern.proofs.few_states.Statement.{statement}
 use Rattle.pattern.proofs.few_states.Tie as tie
-use Rattle.automaton.proofs.states_of.Reads as states-of-reads
-use Rattle.positions.proofs.positions_of.Reads as positions-of-reads
 
 -- the positions are those of the pattern
 of : (c : tie.After-positions-of) → Of (patternOf (itemsOn (c .before .args .items))) (c .positions-of .result)
@@ -32,9 +27,7 @@ positions-of-requires : tie.Need-positions-of-requires
 positions-of-requires c κs = search needs
 
 states-of-requires : tie.Need-states-of-requires
-states-of-requires c κs =
-    let count : c .positions-of .result .count ≡ suc (size (patternOf (itemsOn (c .before .args .items)))) = ap (λ (p : Positions). p .count) (c .positions-of .ensures) in
-    (omega (arith, of c .few), (_, of c))
+states-of-requires c κs = (_, of c)
 
 returns : tie.Need-returns
 returns c =

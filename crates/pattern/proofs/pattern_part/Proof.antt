@@ -24,8 +24,6 @@ use Rattle.pattern.proofs.Part.{read-refused, read-accepted, before-ite
 use borrow.Author.Needs.{needs}
 use Rattle.pattern.proofs.pattern_part.Statement.{statement}
 use Rattle.pattern.proofs.pattern_part.Tie as tie
-use Rattle.pattern.proofs.few_states.Reads as few-states-reads
-use Rattle.pattern.proofs.read_pattern.Reads as read-pattern-reads
 
 -- the bytes, and what the reader said of them, where it has no refusal
 abbrev bytes : tie.After-enum-told2 → List ℕ

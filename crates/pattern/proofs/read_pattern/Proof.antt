@@ -23,9 +23,6 @@ use Rattle.pattern.proofs.Order.{answer-order, answer-items, answer-non
 use borrow.Author.Needs.{needs}
 use Rattle.pattern.proofs.read_pattern.Statement.{statement}
 use Rattle.pattern.proofs.read_pattern.Tie as tie
-use Rattle.items.proofs.read_items.Reads as read-items-reads
-use Rattle.pattern.proofs.turned_down.Reads as turned-down-reads
-use Rattle.plan.proofs.read_plan.Reads as read-plan-reads
 
 -- the bytes, and what the reader of the plan said of them, where it has no refusal
 abbrev bytes : tie.After-enum-told → List ℕ

@@ -2,8 +2,6 @@
 use borrow.Author.Needs.{needs}
 use Rattle.pattern.proofs.turned_down.Statement.{statement}
 use Rattle.pattern.proofs.turned_down.Tie as tie
-use Rattle.items.proofs.blank.Reads as blank-reads
-use Rattle.plan.proofs.turned_down.Reads as turned-down-reads
 
 turned-down-requires : tie.Need-turned-down-requires
 turned-down-requires c κs = search needs

@@ -17,16 +17,16 @@ pushed-requires c κs = search needs
 add-t11 : tie.Need-add-t11
 add-t11 c = search needs
 
-held-requires : tie.Need-held-requires
-held-requires c κs = search needs
+gained-requires : tie.Need-gained-requires
+gained-requires c κs = search needs
 
 returns : tie.Need-returns
 returns c =
     let start = c .before .before .before .before .before .before .before .before in
     let at = c .before .before .before .with-state .ensures in
-    events-taken (start .args .d) _ _ (start .pre .0) (c .before .before .pushed .ensures) (start .args .set) _ at refl refl refl (c .held .ensures)
+    events-taken (start .args .d) _ _ (start .pre .0) (c .before .before .pushed .ensures) (start .args .set) _ at refl refl refl (c .gained .ensures)
 
 pub take-events-spec : {M : Type 1} → statement M
 take-events-spec =
     tie.close
-    (tie.spec cast-with-state with-state-requires pushed-requires add-t11 held-requires returns)
+    (tie.spec cast-with-state with-state-requires pushed-requires add-t11 gained-requires returns)

@@ -4,7 +4,7 @@ use Prim.Native.Nat.{_≤_}
 use native.Mathlib.Omega.{arith}
 use borrow.Author.Needs.{needs}
 use Rattle.regex.specs.Items.{repeat}
-use Rattle.items.specs.Items.{itemOf}
+use Rattle.items.specs.Refusals.{itemOf}
 use Rattle.positions.proofs.Items.{item-repeat}
 use Rattle.positions.proofs.take_item.Statement.{statement}
 use Rattle.positions.proofs.take_item.Tie as tie

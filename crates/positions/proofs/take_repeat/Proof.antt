@@ -20,13 +20,13 @@ sub-pushed c = search needs
 pushed-requires : tie.Need-pushed-requires
 pushed-requires c κs = search needs
 
-linked-requires : tie.Need-linked-requires
-linked-requires c κs = search needs
+gained-requires : tie.Need-gained-requires
+gained-requires c κs = search needs
 
 returns : tie.Need-returns
 returns c =
     let start = c .before .before .before .before .before .before in
-    repeat-taken (start .args .d) _ _ (start .pre .1) (start .pre .0) (c .before .pushed .ensures) refl refl (c .linked .ensures) refl
+    repeat-taken (start .args .d) _ _ (start .pre .1) (start .pre .0) (c .before .pushed .ensures) refl refl (c .gained .ensures) refl
 
 pub take-repeat-spec : {M : Type 1} → statement M
 take-repeat-spec =
@@ -37,5 +37,5 @@ take-repeat-spec =
     element-copy-out-one
     sub-pushed
     pushed-requires
-    linked-requires
+    gained-requires
     returns)

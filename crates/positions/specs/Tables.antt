@@ -6,4 +6,4 @@ use Rattle.regex.specs.Positions.{size, after, holding, final}
 use Rattle.positions.specs.declared.Positions.{Positions}
 
 abbrev pub positionTable : Expression → Positions
-positionTable r = record { count = suc (size r); after = row 33 (after r); holding = row 32 (holding 1 r); last = final r }
+positionTable r = record { count = suc (size r); after = row 33 (after r); holding = row 33 (holding 1 r); last = final r }
