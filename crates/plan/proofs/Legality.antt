@@ -3,7 +3,7 @@ use mathlib.Core.Path.{_≡_, refl, sym}
 use mathlib.Core.Bool.{Bool, true, false, _&&_}
 use mathlib.Core.Logic.{⊎-elim}
 use mathlib.Core.Option.{none}
-use mathlib.Core.List.{List, [], _∷_, List·Memᴰ, List·Memᴰ·not-nil, List·Memᴰ·cases-cons, List·Memᴰ·append-cases, List·Memᴰ·eq-of-singleton}
+use mathlib.Core.List.{List, [], _∷_, List·Memᴰ, List·Memᴰ·not-nil, List·Memᴰ·cases-cons}
 use Prim.Native.Nat.{ℕ, zero, suc, _+_, _*_, _<_}
 use native.Mathlib.Nat.{not-suc-le-zero, le-of-suc-le-suc}
 use native.Mathlib.Omega.{arith}
@@ -13,9 +13,9 @@ use lib.ListN.{length, getD, List·getD-map}
 use Rattle.fields.specs.Bits.{fieldAt}
 use Rattle.fields.proofs.Laws.{field-lt}
 use Rattle.sections.specs.Plan.{Job, Arc, Plan}
-use Rattle.rows.specs.Rows.{row}
 use Rattle.sections.specs.Layout.{headOf, stepsAt, channelsAt, planOf}
 use Rattle.rows.proofs.Rows.{row-length}
+use Rattle.rows.proofs.Members.{in-row}
 use Rattle.sections.proofs.Kept.{noJob}
 use Rattle.plan.specs.Checks.{first, anyFrom}
 use Rattle.plan.specs.Nodes.{jobOf, entryOf, exitOf, isNode}
@@ -42,16 +42,9 @@ none-in test k (x ∷ xs) e a m =
     let b = or-none (test x) _ e in
     ⊎-elim (λ (q : a ≡ x). rw q (b .0)) (λ (n : List·Memᴰ a xs). none-in test (suc k) xs (b .1) a n) (List·Memᴰ·cases-cons m)
 
--- a member of a row is one of its records
-in-row : {A : Type 0} (f : ℕ → A) (n : ℕ) (a : A) → List·Memᴰ a (row n f) → (i : ℕ) × (i < n) × (a ≡ f i)
-unfolding row
-in-row f zero a m = absurd (List·Memᴰ·not-nil m)
-in-row f (suc n) a m =
-    ⊎-elim (λ l. let r = in-row f n a l in (r .0, omega arith, r .2)) (λ r. (n, omega arith, List·Memᴰ·eq-of-singleton r)) (List·Memᴰ·append-cases (row n f) m)
-
 -- ---- tests read back
 
-both : (a b : Bool) → (a && b) ≡ true → (a ≡ true) × (b ≡ true)
+pub both : (a b : Bool) → (a && b) ≡ true → (a ≡ true) × (b ≡ true)
 both true b e = (refl, e)
 both false b e = (cc, cc)
 
@@ -127,6 +120,6 @@ legal b e =
       exit = λ j h. ends-of p s j h .1;
       inside = λ a m. inside-of p a (none-in (apart (p .nodes) (jobOf p)) 0 (arcs p) (s .joined) a m) (none-in (leaving (jobOf p) (exitOf p)) 0 (arcs p) (s .staying) a m);
       channel = λ a m. leb-false _ _ (none-in (unknown (length (p .channels))) 0 (links p) (s .known) a m);
-      event = λ a m. let r = in-row _ (headOf b .steps) a m in rw (r .2) (step-event b f (r .0) (r .1));
-      channel-event = λ x m. let r = in-row _ (headOf b .channels) x m in rw (r .2) (channel-event b f (r .0) (r .1));
+      event = λ a m. let r = in-row _ (headOf b .steps) m in rw (r .2) (step-event b f (r .0) (r .1));
+      channel-event = λ x m. let r = in-row _ (headOf b .channels) m in rw (r .2) (channel-event b f (r .0) (r .1));
     }

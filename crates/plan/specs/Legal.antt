@@ -1,11 +1,13 @@
 -- What an accepted plan is: refusals 2 to 9, read as what holds where none of them applies.
 use mathlib.Core.Path.{_≡_}
-use mathlib.Core.List.{List·Memᴰ}
+use mathlib.Core.List.{List, List·Memᴰ}
 use Prim.Native.Nat.{ℕ, _≤_, _<_}
 use lib.ListN.{length}
 use Rattle.sections.specs.Plan.{Arc, Plan}
-use Rattle.sections.specs.Tables.{sizes}
-use Rattle.plan.specs.Nodes.{jobOf, entryOf, exitOf, total}
+use Rattle.sections.specs.declared.Decoded.{Decoded}
+use Rattle.sections.specs.Tables.{sizes, decodedOf}
+use Rattle.rows.specs.Rows.{padded}
+use Rattle.plan.specs.Nodes.{owners, jobOf, entryOf, exitOf, total}
 use Rattle.plan.specs.Refusals.{arcs, links}
 
 -- n is a node of the job j
@@ -38,3 +40,9 @@ pub record Legal (p : Plan) : Type 0 where
   -- events are numbers of 5 bits
   pub event : (a : Arc) → List·Memᴰ a (p .steps) → a .label < 32
   pub channel-event : (e : ℕ) → List·Memᴰ e (p .channels) → e < 32
+
+-- what the reader hands on of an accepted plan p: d are its tables, and owner the job of each node
+pub record Keeps (p : Plan) (d : Decoded) (owner : List ℕ) : Type 0 where
+  pub legal : Legal p
+  pub tables : d ≡ decodedOf p
+  pub owners : owner ≡ padded 256 (owners (p .jobs))

@@ -6,7 +6,7 @@ use Prim.Native.Nat.{ℕ, zero, suc, _+_, _-_, _≤_, _<_}
 use native.Mathlib.Numerals.{add-one}
 use native.Mathlib.Omega.{arith}
 use native.Mathlib.Decide.{ℕ-discrete}
-use lib.ListN.{length, getD, set, take, replicate, length-append, List·getD-append, List·getD-map}
+use lib.ListN.{length, getD, set, take, replicate, length-append, length-replicate, List·getD-append, List·getD-map}
 use lib.Seq.{set-at, append-snoc, getD-at, take-suc, take-length}
 use Rattle.rows.specs.Rows.{row, padded, place}
 
@@ -53,7 +53,7 @@ column-more size g f i v h e = rw (map-row g f i, map-row g f (i + 1)) (padded-r
 
 -- ---- places of a padded array
 
-zeros-at : (n i : ℕ) → place (replicate n 0) i ≡ 0
+pub zeros-at : (n i : ℕ) → place (replicate n 0) i ≡ 0
 zeros-at zero i = refl
 zeros-at (suc n) zero = refl
 zeros-at (suc n) (suc i) = zeros-at n i
@@ -96,6 +96,10 @@ row-at f zero i d h = absurd (omega arith)
 row-at f (suc n) i d h =
     by-cases (ℕ-discrete i n) (λ e. rw e (getD-at (row n f) (f n) [] d n (row-length f n)))
     (λ o. List·getD-append (row n f) (f n ∷ []) d i (omega (arith, row-length f n)) ∙ row-at f n i d (omega arith))
+
+pub padded-length : (n : ℕ) (l : List ℕ) → length l ≤ n → length (padded n l) ≡ n
+unfolding padded
+padded-length n l h = length-append l (replicate (n - length l) 0) ∙ omega (arith, length-replicate {A = ℕ} (n - length l) 0)
 
 -- a full array has nothing behind
 pub padded-full : (n : ℕ) (f : ℕ → ℕ) → padded n (row n f) ≡ row n f

@@ -1,0 +1,7 @@
+pub mod Sums
+pub mod Turns
+pub mod Lengths
+pub mod Sizes
+pub mod Counted
+pub mod Kept
+pub mod Cases

@@ -1,0 +1,5 @@
+pub mod Pairs
+pub mod Gained
+pub mod Work
+pub mod Evaluate
+pub mod Cases
