@@ -9,9 +9,9 @@ use lib.Dec.{eqb}
 use lib.ListN.{length}
 use Rattle.rows.specs.Rows.{row}
 use Rattle.rows.proofs.Members.{in-row, row-in}
-use Rattle.sections.specs.Plan.{Arc, Plan}
+use Rattle.sections.specs.Plan.{Arc, Plan, arcAt}
 use Rattle.plan.specs.Nodes.{jobOf}
-use Rattle.graph.specs.Moves.{Move, step, meeting, arcAt, mover, Meet, Has, arcsOf}
+use Rattle.graph.specs.Moves.{Move, step, meeting, mover, Meet, Has, arcsOf}
 use Rattle.graph.specs.Flow.{Apart}
 use Rattle.graph.specs.Edges.{each, upTo, meet, meetingsOf, movesOf, apart, edgesOf}
 

@@ -7,9 +7,9 @@ use mathlib.Core.Logic.{_≢_}
 use mathlib.Core.Option.{some}
 use Prim.Native.Nat.{ℕ, _<_}
 use lib.ListN.{length}
-use Rattle.sections.specs.Plan.{Arc, Plan}
+use Rattle.sections.specs.Plan.{Arc, Plan, arcAt}
 use Rattle.plan.specs.Nodes.{jobOf, entryOf}
-use Rattle.graph.specs.Moves.{Move, step, meeting, arcAt, mover, Has, arcsOf}
+use Rattle.graph.specs.Moves.{Move, step, meeting, mover, Has, arcsOf}
 use Rattle.graph.specs.Observer.{Observer}
 use Rattle.graph.specs.Flow.{Apart, Held, Closed}
 use Rattle.graph.proofs.Moves.{of-one, of-two}

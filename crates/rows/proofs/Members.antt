@@ -20,6 +20,12 @@ module _ {A : Type 0} (d : A) where
   in-at (List·Memᴰ·head q) = (0, omega arith, sym q)
   in-at (List·Memᴰ·tail i) = let r = in-at i in (suc (r .0), omega arith, r .2)
 
+  -- what holds of each member, and of what stands past the end, holds at each place
+  pub at-each : (P : A → Type 0) → P d → (l : List A) → ((a : A) → List·Memᴰ a l → P a) → (i : ℕ) → P (getD l i d)
+  at-each P z [] h i = z
+  at-each P z (x ∷ l) h zero = h x (List·Memᴰ·head refl)
+  at-each P z (x ∷ l) h (suc i) = at-each P z l (λ a m. h a (List·Memᴰ·tail m)) i
+
 module _ {A : Type 0} (f : ℕ → A) where
   -- the members of a row
   pub in-row : (n : ℕ) {x : A} → List·Memᴰ x (row n f) → (i : ℕ) × (i < n) × (x ≡ f i)

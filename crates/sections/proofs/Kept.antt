@@ -3,26 +3,26 @@ use mathlib.Core.Path.{_≡_, refl, ap, _∙_, fun-ext}
 use mathlib.Core.List.{List}
 use Prim.Native.Nat.{ℕ}
 use lib.ListN.{length, getD}
-use Rattle.sections.specs.Plan.{Job, Arc, Plan}
+use Rattle.sections.specs.Plan.{Job, Arc, noArc, arcAt, Plan}
 use Rattle.rows.specs.Rows.{row}
 use Rattle.rows.proofs.Rows.{padded-places, column-at, row-places}
 use Rattle.sections.specs.Tables.{jobTable, arcTable, channelTable, decodedOf, jobIn, arcIn, jobsIn, arcsIn, channelsIn, planIn}
 
 -- ---- tables
 
-noArc : Arc
-noArc = record { from = 0; to = 0; label = 0 }
-
-pub arcs-kept : (l : List Arc) → arcsIn (arcTable l) ≡ l
-unfolding noArc
-arcs-kept l = ap (row (length l)) (fun-ext same) ∙ row-places noArc l
+-- the arc at each place of a table is that of the list
+pub arcs-at : (l : List Arc) → arcIn (arcTable l) ≡ arcAt l
+arcs-at l = fun-ext same
   where
-    same : (i : ℕ) → arcIn (arcTable l) i ≡ getD l i noArc
+    same : (i : ℕ) → arcIn (arcTable l) i ≡ arcAt l i
     same i = λ j. record {
       from = column-at 256 (λ (a : Arc). a .from) noArc refl l i j;
       to = column-at 256 (λ (a : Arc). a .to) noArc refl l i j;
       label = column-at 256 (λ (a : Arc). a .label) noArc refl l i j;
     }
+
+pub arcs-kept : (l : List Arc) → arcsIn (arcTable l) ≡ l
+arcs-kept l = ap (row (length l)) (arcs-at l) ∙ row-places noArc l
 
 -- a job of zeros, past the end of a list
 abbrev pub noJob : Job

@@ -1,6 +1,7 @@
 -- What a plan says, as lists. Document 01, "The bit-packed plan".
 use Prim.Native.Nat.{ℕ, zero, suc}
 use mathlib.Core.List.{List, []}
+use lib.ListN.{getD}
 use Rattle.sections.specs.declared.Kind.{Kind}
 use Rattle.sections.specs.declared.Kind.the-variants.{Every, None}
 
@@ -15,6 +16,13 @@ pub record Arc : Type 0 where
   pub from : ℕ
   pub to : ℕ
   pub label : ℕ
+
+-- the arc with the number i; past the end of the list an arc of zeros
+abbrev pub noArc : Arc
+noArc = record { from = 0; to = 0; label = 0 }
+
+abbrev pub arcAt : List Arc → ℕ → Arc
+arcAt l i = getD l i noArc
 
 pub record Plan : Type 0 where
   pub nodes : ℕ
