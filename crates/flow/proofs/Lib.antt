@@ -1,4 +1,3 @@
-pub mod Pairs
 pub mod Gained
 pub mod Work
 pub mod Evaluate

@@ -4,3 +4,4 @@ pub mod Sets
 pub mod Counts
 pub mod Images
 pub mod Choices
+pub mod Pairs

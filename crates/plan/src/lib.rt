@@ -73,17 +73,11 @@ fn framed(plan: &[u8]) -> Outcome
     Outcome::Accepted
 }
 
-// A size, and a node's number, as numbers to reckon with: the contract has the range.
+// A size as a number to reckon with: the contract has the range.
 fn wide(size: u16) -> usize
     ensures { λ r. ⌜ (r ≡ size) × (r < 65536) ⌝ }
 {
     size as usize
-}
-
-fn byte(n: u8) -> usize
-    ensures { λ r. ⌜ (r ≡ n) × (r < 256) ⌝ }
-{
-    n as usize
 }
 
 // Refusal 5.
@@ -163,10 +157,10 @@ fn any_stray(g: Bounds, jobs: Jobs) -> bool
     let mut found = false;
     let mut i: usize = 0;
     while i < count {
-        let entry = byte(jobs.entry[i]);
-        let exit = byte(jobs.exit[i]);
-        let entry_job = byte(g.owner[entry]);
-        let exit_job = byte(g.owner[exit]);
+        let entry = sections::byte(jobs.entry[i]);
+        let exit = sections::byte(jobs.exit[i]);
+        let entry_job = sections::byte(g.owner[entry]);
+        let exit_job = sections::byte(g.owner[exit]);
         found = found
             | !(((entry < nodes) & (entry_job == i)) & ((exit < nodes) & (exit_job == i)));
         i += 1;
@@ -194,12 +188,12 @@ fn find_faults(g: Bounds, arcs: Arcs) -> Faults
     let mut unknown = false;
     let mut i: usize = 0;
     while i < count {
-        let from = byte(arcs.from[i]);
-        let to = byte(arcs.to[i]);
-        let label = byte(arcs.label[i]);
-        let job = byte(g.owner[from]);
-        let other = byte(g.owner[to]);
-        let exit = byte(g.exit[job]);
+        let from = sections::byte(arcs.from[i]);
+        let to = sections::byte(arcs.to[i]);
+        let label = sections::byte(arcs.label[i]);
+        let job = sections::byte(g.owner[from]);
+        let other = sections::byte(g.owner[to]);
+        let exit = sections::byte(g.exit[job]);
         apart = apart | !((from < nodes) & ((to < nodes) & (job == other)));
         leaving = leaving | (from == exit);
         unknown = unknown | (channels <= label);

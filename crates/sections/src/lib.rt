@@ -1,6 +1,6 @@
 // The sections of a plan before its pattern, read into tables.
 ghost use mathlib.Core.Path.{_≡_};
-ghost use Prim.Native.Nat.{ℕ, _+_, _*_, _≤_};
+ghost use Prim.Native.Nat.{ℕ, _+_, _*_, _<_, _≤_};
 ghost use lib.ListN.{length};
 ghost use Rattle.fields.specs.Bits.{fieldAt};
 ghost use Rattle.sections.specs.Plan.{kindOf, nothing};
@@ -59,6 +59,13 @@ pub struct Decoded {
     pub channels: Channels,
     pub calls: Arcs,
     pub accepts: Arcs,
+}
+
+// A place of a table as a number to reckon with: the contract has the range.
+pub fn byte(n: u8) -> usize
+    ensures { λ r. ⌜ (r ≡ n) × (r < 256) ⌝ }
+{
+    n as usize
 }
 
 // The head, 54 bits.
