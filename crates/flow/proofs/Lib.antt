@@ -1,4 +1,5 @@
 pub mod Gained
 pub mod Work
+pub mod Exact
 pub mod Evaluate
 pub mod Cases
