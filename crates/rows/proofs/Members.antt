@@ -1,4 +1,4 @@
--- The members of a list by their places, and of a row. Assumes nothing.
+-- The members of a list by their places, and of a row; a value stored at a place. Assumes nothing.
 use mathlib.Core.Path.{_≡_, refl, sym, ap}
 use mathlib.Core.List.{List, [], _∷_, List·Memᴰ, List·Memᴰ·head, List·Memᴰ·tail, List·Memᴰ·not-nil, List·Memᴰ·eq-of-singleton, List·Memᴰ·append-cases, Memᴰ·append-left, Memᴰ·append-right}
 use mathlib.Core.Logic.{⊎-elim, by-cases}
@@ -6,7 +6,7 @@ use Prim.Native.Nat.{ℕ, zero, suc, _<_}
 use native.Mathlib.Nat.{not-suc-le-zero, le-of-suc-le-suc}
 use native.Mathlib.Decide.{ℕ-discrete}
 use native.Mathlib.Omega.{arith}
-use lib.ListN.{length, getD}
+use lib.ListN.{length, getD, set}
 use Rattle.rows.specs.Rows.{row}
 
 module _ {A : Type 0} (d : A) where
@@ -39,3 +39,12 @@ module _ {A : Type 0} (f : ℕ → A) where
   row-in zero i h = absurd (omega arith)
   row-in (suc n) i h =
       by-cases (ℕ-discrete i n) (λ e. Memᴰ·append-right (row n f) (List·Memᴰ·head (ap f e))) (λ o. Memᴰ·append-left (f n ∷ []) (row-in n i (omega arith)))
+
+-- what holds at each place, and of a value, holds at each place once the value is stored
+pub set-each : {A : Type 0} (P : ℕ → A → Type 0) (d : A) (l : List A) (k : ℕ) (v : A) → ((n : ℕ) → P n (getD l n d)) → P k v
+    → (n : ℕ) → P n (getD (set l k v) n d)
+set-each P d [] k v old new n = old n
+set-each P d (x ∷ l) zero v old new zero = new
+set-each P d (x ∷ l) zero v old new (suc n) = old (suc n)
+set-each P d (x ∷ l) (suc k) v old new zero = old zero
+set-each P d (x ∷ l) (suc k) v old new (suc n) = set-each (λ i. P (suc i)) d l k v (λ i. old (suc i)) new n
