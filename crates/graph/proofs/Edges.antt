@@ -18,7 +18,7 @@ use Rattle.graph.specs.Edges.{each, upTo, meet, meetingsOf, movesOf, apa
 -- ---- members of lists that are made of lists
 
 module _ {A B : Type 0} (f : A → List B) {y : B} where
-  in-each : (l : List A) → List·Memᴰ y (each l f) → (x : A) × List·Memᴰ x l × List·Memᴰ y (f x)
+  pub in-each : (l : List A) → List·Memᴰ y (each l f) → (x : A) × List·Memᴰ x l × List·Memᴰ y (f x)
   unfolding each
   in-each [] i = absurd (List·Memᴰ·not-nil i)
   in-each (x ∷ l) i =
@@ -34,7 +34,7 @@ in-upTo : (n : ℕ) {i : ℕ} → List·Memᴰ i (upTo n) → i < n
 in-upTo n m = let r = in-row (λ i. i) n m in rw (r .2) (r .1)
 
 -- a list that is there where a test holds
-in-cond : {A : Type 0} {x : A} {l : List A} (b : Bool) → List·Memᴰ x (cond b l []) → (b ≡ true) × List·Memᴰ x l
+pub in-cond : {A : Type 0} {x : A} {l : List A} (b : Bool) → List·Memᴰ x (cond b l []) → (b ≡ true) × List·Memᴰ x l
 in-cond true i = (refl, i)
 in-cond false i = absurd (List·Memᴰ·not-nil i)
 

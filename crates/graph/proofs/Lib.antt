@@ -5,3 +5,4 @@ pub mod Sound
 pub mod Within
 pub mod Fewer
 pub mod Edges
+pub mod Once
