@@ -1,3 +1,4 @@
+pub mod Bounds
 pub mod Gained
 pub mod Work
 pub mod Exact
