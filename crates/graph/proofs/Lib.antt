@@ -6,3 +6,4 @@ pub mod Within
 pub mod Fewer
 pub mod Edges
 pub mod Once
+pub mod Plans
