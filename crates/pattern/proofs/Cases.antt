@@ -42,7 +42,7 @@ abbrev b₃ : ℕ
 b₃ = 2 ^ 30 + 2 ^ 29 + 2 ^ 28
 
 -- "from 000's example": two jobs, a call and an accept, and 1 then 2 then 3
-abbrev two-jobs : List ℕ
+abbrev pub two-jobs : List ℕ
 two-jobs =
     packed ((2, 5) ∷ (6, 9) ∷ (2, 9) ∷ (1, 8) ∷ (1, 8) ∷ (1, 7) ∷ (0, 1) ∷ (5, 7) ∷ (b₃, 31) ∷ job 3 0 2 ++ job 3 3 5 ++ step 0 1 1 ++ step 4 5 3 ++ channel 2 ++ link 1 2 0 ++ link 3 4 0)
     ++ packed (one (1 ∷ []) ++ one (2 ∷ []) ++ sequence ++ one (3 ∷ []) ++ sequence)
@@ -52,7 +52,7 @@ abbrev later : ℕ → Fields
 later zero = []
 later (suc n) = one (1 ∷ 2 ∷ []) ++ sequence ++ later n
 
-abbrev distance : ℕ → ℕ → List ℕ
+abbrev pub distance : ℕ → ℕ → List ℕ
 distance items n = with-pattern b₂ items (one (1 ∷ 2 ∷ []) ++ repeat ++ one (1 ∷ []) ++ sequence ++ later n)
 
 -- ---- refusals

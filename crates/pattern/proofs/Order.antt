@@ -1,6 +1,6 @@
 -- The answer of the reader, by which refusals apply. Assumes nothing.
 use mathlib.Core.Path.{_≡_, refl, sym, ap, _∙_}
-use mathlib.Core.List.{List, [], _∷_}
+use mathlib.Core.List.{List}
 use mathlib.Core.Option.{Option, none, some}
 use Prim.Native.Nat.{ℕ, _≤_}
 use lib.ListN.{length}
@@ -9,7 +9,7 @@ use Rattle.plan.specs.declared.Outcome.the-variants.{Accepted, Refused}
 use Rattle.plan.specs.Checks.{first, orElse}
 use Rattle.plan.specs.Refusals.{order}
 use Rattle.plan.specs.Reading as plan
-use Rattle.plan.proofs.Tests.{or-else-none, first-append}
+use Rattle.plan.proofs.Tests.{first-last}
 use Rattle.plan.proofs.Ends.{order-none, reading-is, outcome-refused, outcome-accepted}
 use Rattle.plan.proofs.Ranges.{framed}
 use Rattle.items.specs.Refusals.{itemsIn, itemsRefusal}
@@ -20,8 +20,7 @@ use Rattle.pattern.specs.Reading.{accepted, refused, answered, patternRe
 -- ---- the checks in their order
 
 pub readable-parts : (b : List ℕ) → first readable b ≡ orElse (first order b) (badItems b)
-unfolding first
-readable-parts b = first-append order (badItems ∷ []) b ∙ ap (orElse (first order b)) (or-else-none (badItems b))
+readable-parts b = first-last order badItems b
 
 module _ (b : List ℕ) where
   pub answer : (o : Option ℕ) → first readable b ≡ o → patternReadOf b ≡ answered o b

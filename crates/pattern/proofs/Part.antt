@@ -1,7 +1,7 @@
 -- The pattern part, by which refusals apply: it is empty if and only if one of 1 to 16 does. Assumes nothing.
 use mathlib.Core.Path.{_≡_, refl, sym, ap, _∙_}
 use mathlib.Core.Bool.{Bool, true, false, cond}
-use mathlib.Core.List.{List, [], _∷_}
+use mathlib.Core.List.{List, []}
 use mathlib.Core.Logic.{_↔_}
 use mathlib.Core.Option.{Option, none, some}
 use Prim.Native.Nat.{ℕ}
@@ -12,7 +12,7 @@ use Rattle.plan.specs.declared.Outcome.the-variants.{Accepted, Refused}
 use Rattle.plan.specs.Checks.{refuse, first, orElse}
 use Rattle.plan.specs.Refusals.{order}
 use Rattle.plan.specs.Reading.{outcomeOf}
-use Rattle.plan.proofs.Tests.{both-none, or-else-none, first-append}
+use Rattle.plan.proofs.Tests.{both-none, first-last}
 use Rattle.plan.proofs.Ends.{outcome-refused, outcome-accepted}
 use Rattle.plan.proofs.Legality.{legal}
 use Rattle.items.specs.Tables.{itemTable}
@@ -56,8 +56,7 @@ module _ (b : List ℕ) (passed : first readable b ≡ none) where
 -- ---- the part
 
 acceptable-parts : (b : List ℕ) → first acceptable b ≡ orElse (first readable b) (cond (tooManyStates b) (some 16) none)
-unfolding first
-acceptable-parts b = first-append readable (refuse 16 tooManyStates ∷ []) b ∙ ap (orElse (first readable b)) (or-else-none (cond (tooManyStates b) (some 16) none))
+acceptable-parts b = first-last readable (refuse 16 tooManyStates) b
 
 module _ (b : List ℕ) where
   part : (o : Option ℕ) → first acceptable b ≡ o → patternPart b ≡ partUnder o b

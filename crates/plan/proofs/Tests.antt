@@ -36,7 +36,7 @@ pub both-none : (x y : Option ℕ) → orElse x y ≡ none → (x ≡ none) × (
 both-none none y e = (refl, e)
 both-none (some n) y e = (e, cc)
 
-pub or-else-none : (x : Option ℕ) → orElse x none ≡ x
+or-else-none : (x : Option ℕ) → orElse x none ≡ x
 or-else-none none = refl
 or-else-none (some n) = refl
 
@@ -48,6 +48,11 @@ pub first-append : {A : Type 0} (xs ys : List (Check A)) (a : A) → first (xs +
 unfolding first
 first-append [] ys a = refl
 first-append (x ∷ xs) ys a = ap (orElse (x a)) (first-append xs ys a) ∙ sym (or-else-assoc (x a) (first xs a) (first ys a))
+
+-- a list of checks with one more at its end
+pub first-last : {A : Type 0} (cs : List (Check A)) (c : Check A) (a : A) → first (cs ++ (c ∷ [])) a ≡ orElse (first cs a) (c a)
+unfolding first
+first-last cs c a = first-append cs (c ∷ []) a ∙ ap (orElse (first cs a)) (or-else-none (c a))
 
 -- checks of what a thing says
 pub first-said : {A B : Type 0} (f : A → B) (cs : List (Check B)) (a : A) → first (map (λ (c : Check B) (x : A). c (f x)) cs) a ≡ first cs (f a)

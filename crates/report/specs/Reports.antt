@@ -1,0 +1,18 @@
+-- What program `judge` prints of a plan. Document 01, "The pattern part and the program".
+use mathlib.Core.Path.{_≡_}
+use mathlib.Core.List.{List}
+use Prim.Native.Nat.{ℕ, _≤_}
+use lib.ListN.{replicate}
+use Rattle.verdict.specs.declared.Answer.{Answer}
+use Rattle.verifier.specs.Judged.{Judged}
+use Rattle.line.specs.declared.Line.{Line}
+use Rattle.line.specs.Line.{lineOf}
+use Rattle.line.specs.Kept.{kept}
+
+-- "prints one line": that of the answer to the bytes b, judged with a row of 256 places
+pub record Reports (b : List ℕ) (line : Line) : Type 0 where
+  pub answer : Answer
+  pub row : List ℕ
+  pub judged : Judged b (replicate 256 0) answer row
+  pub told : line ≡ kept (lineOf answer)
+  pub fits : line .used ≤ 128

@@ -1,0 +1,202 @@
+// The plans with known verdicts: each is judged, and its line printed, with the row behind it. A row is lent with 7 in every
+// place.
+use libc::STDOUT_FILENO;
+ghost use Prim.Native.Nat.{_≤_};
+
+// Prints what stands in the row, in hexadecimal.
+fn show(row: &[u64]) {
+    io::write_all(STDOUT_FILENO, b"  row");
+    let mut n: usize = 0;
+    while n < row.len() {
+        io::write_all(STDOUT_FILENO, b" ");
+        io::print_hex(STDOUT_FILENO, row[n], 1);
+        n += 1;
+    }
+    io::write_all(STDOUT_FILENO, b"\n");
+}
+
+// Judges a plan with a row of so many places.
+fn replay(name: &[u8], plan: &[u8], places: usize)
+    requires { ⌜ places ≤ 16 ⌝ }
+{
+    let mut places_lent = [7u64; 16];
+    let row: &mut [u64] = &mut places_lent[..places];
+    let answer = verifier::judge(plan, row);
+    let line = line::line_of(answer);
+    let bytes = line.bytes;
+    io::write_all(STDOUT_FILENO, name);
+    io::write_all(STDOUT_FILENO, b"\n  ");
+    io::write_all(STDOUT_FILENO, &bytes[..line.used]);
+    show(row);
+}
+
+// One job.
+fn one_job() {
+    // P: one job of two nodes, 0 to 1 by event 1; the alphabet is {1}, the pattern event 1, the kind every
+    let p: &[u8] =
+        b"\x08\x08\x02\x00\x00\x00\x06\x00\x00\x00\x00\x08\x00\x04\x00\x04\x20\x30\x00\x00\x00\x00";
+    replay(b"P", p, 3);
+    replay(b"P, a row of two places", p, 2);
+    replay(b"P, a row of one place", p, 1);
+    replay(b"P with 10 bytes", &p[..10], 2);
+    replay(b"P with 16 bytes", &p[..16], 2);
+    replay(b"P without its last byte", &p[..21], 2);
+    // P of kind none
+    replay(
+        b"P of kind none",
+        b"\x08\x08\x02\x00\x00\x02\x06\x00\x00\x00\x00\x08\x00\x04\x00\x04\x20\x30\x00\x00\x00\x00",
+        2,
+    );
+    // one node, entry and exit; alphabet, pattern and kind of P
+    replay(
+        b"one node",
+        b"\x08\x04\x00\x00\x00\x00\x06\x00\x00\x00\x00\x04\x00\x00\x30\x00\x00\x00\x00",
+        1,
+    );
+    // the same of kind none
+    replay(
+        b"one node, of kind none",
+        b"\x08\x04\x00\x00\x00\x02\x06\x00\x00\x00\x00\x04\x00\x00\x30\x00\x00\x00\x00",
+        1,
+    );
+    // P with an empty alphabet, the empty string as pattern, and a quiet step
+    replay(
+        b"one quiet step",
+        b"\x08\x08\x02\x00\x00\x00\x04\x00\x00\x00\x00\x08\x00\x04\x00\x04\x00\x00",
+        2,
+    );
+    // in place of the step a call from 0 to 1 that nobody accepts
+    replay(
+        b"a call that nobody accepts",
+        b"\x08\x08\x00\x02\x00\x04\x04\x00\x00\x00\x00\x08\x00\x04\x00\x00\x20\x00\x00",
+        2,
+    );
+    // and an accept from 0 to 1 in the same job
+    replay(
+        b"the accept in the same job",
+        b"\x08\x08\x00\x02\x02\x04\x04\x00\x00\x00\x00\x08\x00\x04\x00\x00\x20\x00\x00\x80\x00",
+        2,
+    );
+    // one job of eight nodes, entry 0, exit 7, no steps; empty alphabet, the empty string
+    replay(
+        b"eight nodes",
+        b"\x08\x20\x00\x00\x00\x00\x04\x00\x00\x00\x00\x20\x00\x1c\x00",
+        9,
+    );
+    // P with alphabet {1,2} and the pattern star of {1,2}, then {1}, then {1,2} four times
+    replay(
+        b"four times",
+        b"\x08\x08\x02\x00\x00\x00\x33\x00\x00\x00\x00\x08\x00\x04\x00\x04\x20\x38\x00\x00\x00\x21\x80\x00\x00\x00\x8e\x00\x00\x00\x04\x70\x00\x00\x00\x23\x80\x00\x00\x01\x1c\x00\x00\x00\x08",
+        2,
+    );
+    // five times
+    replay(
+        b"five times",
+        b"\x08\x08\x02\x00\x00\x00\x3b\x00\x00\x00\x00\x08\x00\x04\x00\x04\x20\x38\x00\x00\x00\x21\x80\x00\x00\x00\x8e\x00\x00\x00\x04\x70\x00\x00\x00\x23\x80\x00\x00\x01\x1c\x00\x00\x00\x08\xe0\x00\x00\x00\x40",
+        2,
+    );
+}
+
+// Jobs that meet.
+fn more_jobs() {
+    // two jobs: 0 to 1 by event 1, call 1 to 2; accept 3 to 4, 4 to 5 by event 3; the channel gives 2; the pattern is 1, then 2, then 3
+    replay(
+        b"two jobs",
+        b"\x10\x18\x04\x02\x02\x04\x17\x80\x00\x00\x00\x0c\x00\x08\x06\x06\x0a\x00\x02\x10\x40\x51\x88\x04\x08\x00\x30\x40\x00\x30\x00\x00\x00\x0a\x00\x00\x00\x04\x48\x00\x00\x00\x20",
+        7,
+    );
+    // three jobs of two nodes: the first calls, the second accepts, by event 1, which is watched; the third has no step
+    replay(
+        b"a watched meeting, and a third job",
+        b"\x18\x18\x00\x02\x02\x04\x06\x00\x00\x00\x00\x08\x00\x04\x04\x04\x06\x02\x04\x05\x08\x00\x08\x00\x40\x60\x00\x30\x00\x00\x00\x00",
+        6,
+    );
+    // the same by event 2, which is not watched
+    replay(
+        b"a meeting that is not watched, and a third job",
+        b"\x18\x18\x00\x02\x02\x04\x06\x00\x00\x00\x00\x08\x00\x04\x04\x04\x06\x02\x04\x05\x10\x00\x08\x00\x40\x60\x00\x30\x00\x00\x00\x00",
+        6,
+    );
+}
+
+// A plan for each refusal that is not yet among them.
+fn refused() {
+    // P with 17 jobs
+    replay(
+        b"P with 17 jobs",
+        b"\x88\x08\x02\x00\x00\x00\x06\x00\x00\x00\x00\x08\x00\x04\x00\x04\x20\x30\x00\x00\x00\x00",
+        2,
+    );
+    // P with its byte 20 made 21
+    replay(
+        b"P with a filling bit",
+        b"\x08\x08\x02\x00\x00\x00\x06\x00\x00\x00\x00\x08\x00\x04\x00\x04\x21\x30\x00\x00\x00\x00",
+        2,
+    );
+    // P with a job of size 1
+    replay(
+        b"P with job size 1",
+        b"\x08\x08\x02\x00\x00\x00\x06\x00\x00\x00\x00\x04\x00\x04\x00\x04\x20\x30\x00\x00\x00\x00",
+        2,
+    );
+    // P with exit 2
+    replay(
+        b"P with exit 2",
+        b"\x08\x08\x02\x00\x00\x00\x06\x00\x00\x00\x00\x08\x00\x08\x00\x04\x20\x30\x00\x00\x00\x00",
+        2,
+    );
+    // two jobs of two nodes, and a step from 0 to 2
+    replay(
+        b"a step from job to job",
+        b"\x10\x10\x02\x00\x00\x00\x06\x00\x00\x00\x00\x08\x00\x04\x04\x04\x06\x00\x04\x10\x30\x00\x00\x00\x00",
+        4,
+    );
+    // P with its step from 1 to 0
+    replay(
+        b"P with its step turned round",
+        b"\x08\x08\x02\x00\x00\x00\x06\x00\x00\x00\x00\x08\x00\x04\x04\x00\x20\x30\x00\x00\x00\x00",
+        2,
+    );
+    // P with a call on channel 0 in place of its step, and no channels
+    replay(
+        b"a call without its channel",
+        b"\x08\x08\x00\x02\x00\x00\x06\x00\x00\x00\x00\x08\x00\x04\x00\x04\x00\x30\x00\x00\x00\x00",
+        2,
+    );
+    // P with an item of kind 5
+    replay(
+        b"an item of kind 5",
+        b"\x08\x08\x02\x00\x00\x00\x06\x00\x00\x00\x00\x08\x00\x04\x00\x04\x20\xa0",
+        2,
+    );
+    // P with the pattern event 2
+    replay(
+        b"an event outside the alphabet",
+        b"\x08\x08\x02\x00\x00\x00\x06\x00\x00\x00\x00\x08\x00\x04\x00\x04\x20\x28\x00\x00\x00\x00",
+        2,
+    );
+    // P with a star alone
+    replay(
+        b"a star alone",
+        b"\x08\x08\x02\x00\x00\x00\x06\x00\x00\x00\x00\x08\x00\x04\x00\x04\x20\x80",
+        2,
+    );
+    // P with the items {1} and {1}
+    replay(
+        b"two operands left",
+        b"\x08\x08\x02\x00\x00\x00\x0a\x00\x00\x00\x00\x08\x00\x04\x00\x04\x20\x30\x00\x00\x00\x0c\x00\x00\x00\x00",
+        2,
+    );
+    // P with its last byte 01
+    replay(
+        b"P with last byte 01",
+        b"\x08\x08\x02\x00\x00\x00\x06\x00\x00\x00\x00\x08\x00\x04\x00\x04\x20\x30\x00\x00\x00\x01",
+        2,
+    );
+}
+
+fn main() {
+    one_job();
+    more_jobs();
+    refused();
+}

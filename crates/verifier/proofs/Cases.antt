@@ -1,0 +1,159 @@
+-- Plans with known verdicts: the bytes of a plan and a lent row, the answer to them and the row in the end, by evaluation.
+-- Document 01, "Plans with known verdicts" and "Errors an analyst makes".
+use mathlib.Core.Path.{_≡_, refl}
+use mathlib.Core.List.{List, [], _∷_, _++_, map, List·Memᴰ}
+use mathlib.Core.Option.{Option, some}
+use Prim.Native.Nat.{ℕ, _^_}
+use lib.Count.{ones}
+use lib.ListN.{length, take, set}
+use Rattle.masks.specs.Mask.{digit, gatherBelow, pairsOf}
+use Rattle.fields.specs.Bits.{bitsOf, valueFrom, fieldAt, eventsFrom, eventsAt}
+use Rattle.rows.specs.Rows.{row, padded}
+use Rattle.sections.specs.Layout.{planOf}
+use Rattle.plan.specs.Checks.{first, anyFrom}
+use Rattle.plan.specs.Nodes.{ownersFrom, total}
+use Rattle.plan.specs.Refusals.{countsOutside}
+use Rattle.plan.proofs.Cases.{P, Fields, packed, job, step, channel, link, agree}
+use Rattle.regex.specs.Items.{pushAll}
+use Rattle.regex.specs.Positions as positions
+use Rattle.numbering.specs.Numbering.{index, collect, build, states}
+use Rattle.items.specs.Refusals.{itemAt, read, itemsRefusal}
+use Rattle.items.proofs.Cases.{kind, one}
+use Rattle.automaton.specs.Automaton.{watchedBelow, statesOf, tableOf, acceptingBelow}
+use Rattle.pattern.proofs.Cases.{two-jobs, distance}
+use Rattle.graph.specs.Edges.{each, meetingsOf, edgesOf}
+use Rattle.verdict.specs.declared.Counts.{Counts}
+use Rattle.verdict.specs.declared.Answer.{Answer}
+use Rattle.verdict.specs.declared.Answer.the-variants.{Refused, Verified, Inconclusive}
+use Rattle.verdict.specs.Verdict.{finalBelow, rounded}
+use Rattle.verifier.specs.Judged.{Judged}
+use Rattle.verifier.proofs.Unique.{judged-unique}
+use Rattle.verifier.proofs.Evaluate.{Outcome, evaluate, evaluate-judged}
+
+-- ---- plans
+
+-- a plan from its parts, with a pattern of one item; "kind 1 (0 every, 1 none)"
+abbrev plan : (flag nodes alphabet : ℕ) → (pattern : Fields) → (jobs steps channels calls accepts : List Fields) → List ℕ
+plan flag nodes alphabet pattern jobs steps channels calls accepts =
+    packed ((length jobs, 5) ∷ (nodes, 9) ∷ (length steps, 9) ∷ (length calls, 8) ∷ (length accepts, 8) ∷ (length channels, 7)
+    ∷ (flag, 1) ∷ (1, 7) ∷ (alphabet, 31) ∷ each (jobs ++ steps ++ channels ++ calls ++ accepts) (λ f. f)) ++ packed pattern
+
+-- "alphabet and pattern of P", of kind every, and of kind none
+abbrev of-every : (nodes : ℕ) → (jobs steps channels calls accepts : List Fields) → List ℕ
+of-every nodes = plan 0 nodes (2 ^ 30) (one (1 ∷ []))
+
+abbrev of-none : (nodes : ℕ) → (jobs steps channels calls accepts : List Fields) → List ℕ
+of-none nodes = plan 1 nodes (2 ^ 30) (one (1 ∷ []))
+
+-- "Alphabet empty, pattern the empty string."
+abbrev quiet : (nodes : ℕ) → (jobs steps channels calls accepts : List Fields) → List ℕ
+quiet nodes = plan 0 nodes 0 (kind 0)
+
+-- ---- cases
+
+pub record Case : Type 0 where
+  pub bytes : List ℕ
+  pub before : List ℕ
+  pub answer : Answer
+  pub after : List ℕ
+
+abbrev refused : (bytes before : List ℕ) → ℕ → Case
+refused bytes before n = record { bytes = bytes; before = before; answer = Refused n; after = before }
+
+abbrev counts : (states meetings ordering pairs fill ends : ℕ) → Counts
+counts states meetings ordering pairs fill ends = record {
+  states = states;
+  meetings = meetings;
+  ordering = ordering;
+  pairs = pairs;
+  fill = fill;
+  ends = ends;
+}
+
+abbrev verified : (bytes before : List ℕ) → Counts → (after : List ℕ) → Case
+verified bytes before c after = record { bytes = bytes; before = before; answer = Verified c; after = after }
+
+abbrev inconclusive : (bytes before : List ℕ) → Counts → (after : List ℕ) → Case
+inconclusive bytes before c after = record { bytes = bytes; before = before; answer = Inconclusive c; after = after }
+
+-- plans that are judged
+abbrev judged : List Case
+judged =
+    verified P (7 ∷ 8 ∷ 9 ∷ []) (counts 3 0 0 2 33 2) (1 ∷ 2 ∷ 9 ∷ [])
+    ∷ verified P (7 ∷ 8 ∷ []) (counts 3 0 0 2 33 2) (1 ∷ 2 ∷ [])  -- a row of two places
+    ∷ inconclusive (set P 5 0x02) (7 ∷ 8 ∷ 9 ∷ []) (counts 3 0 0 2 33 2) (1 ∷ 2 ∷ 9 ∷ [])  -- of kind none
+    -- two jobs: {0,2,4} {1,2,4} {2,3,4} {0,1,2} {1,2,3} {1,2,4}
+    ∷ inconclusive two-jobs (1 ∷ 2 ∷ 3 ∷ 4 ∷ 5 ∷ 6 ∷ 7 ∷ 8 ∷ []) (counts 5 1 6 18 60 20) (21 ∷ 22 ∷ 28 ∷ 7 ∷ 14 ∷ 22 ∷ 7 ∷ 8 ∷ [])
+    -- one node, entry and exit
+    ∷ inconclusive (of-every 1 (job 1 0 0 ∷ []) [] [] [] []) (7 ∷ 8 ∷ []) (counts 3 0 0 1 33 1) (1 ∷ 8 ∷ [])
+    ∷ verified (of-none 1 (job 1 0 0 ∷ []) [] [] [] []) (7 ∷ 8 ∷ []) (counts 3 0 0 1 33 1) (1 ∷ 8 ∷ [])
+    -- one quiet step
+    ∷ verified (quiet 2 (job 2 0 1 ∷ []) (step 0 1 0 ∷ []) [] [] []) (7 ∷ 8 ∷ 9 ∷ []) (counts 1 0 0 2 100 1) (1 ∷ 1 ∷ 9 ∷ [])
+    -- a call nobody accepts
+    ∷ verified (quiet 2 (job 2 0 1 ∷ []) [] (channel 0 ∷ []) (link 0 1 0 ∷ []) []) (7 ∷ 8 ∷ 9 ∷ []) (counts 1 0 0 1 50 0) (1 ∷ 0 ∷ 9 ∷ [])
+    -- the accept in the same job
+    ∷ verified (quiet 2 (job 2 0 1 ∷ []) [] (channel 0 ∷ []) (link 0 1 0 ∷ []) (link 0 1 0 ∷ []))
+    (7 ∷ 8 ∷ 9 ∷ []) (counts 1 0 0 1 50 0) (1 ∷ 0 ∷ 9 ∷ [])
+    -- eight nodes, no steps
+    ∷ verified (quiet 8 (job 8 0 7 ∷ []) [] [] [] [])
+    (1 ∷ 2 ∷ 3 ∷ 4 ∷ 5 ∷ 6 ∷ 7 ∷ 8 ∷ 9 ∷ []) (counts 1 0 0 1 13 0) (1 ∷ 0 ∷ 0 ∷ 0 ∷ 0 ∷ 0 ∷ 0 ∷ 0 ∷ 9 ∷ [])
+    ∷ inconclusive (distance 12 4) (7 ∷ 8 ∷ 9 ∷ []) (counts 33 0 0 2 3 2) (1 ∷ 2 ∷ 9 ∷ [])  -- four times: 33 states
+    ∷ []
+
+-- plans that are turned down
+abbrev turnedDown : List Case
+turnedDown =
+    refused (take 10 P) (7 ∷ 8 ∷ []) 1  -- P with 10 bytes
+    ∷ refused (set P 0 0x88) (7 ∷ 8 ∷ []) 2  -- with 17 jobs
+    ∷ refused (take 16 P) (7 ∷ 8 ∷ []) 3  -- with 16 bytes
+    ∷ refused (set P 16 0x21) (7 ∷ 8 ∷ []) 4  -- its byte 20 made 21
+    ∷ refused (set P 11 0x04) (7 ∷ 8 ∷ []) 5  -- job size 1
+    ∷ refused (set (set P 14 0x04) 15 0x00) (7 ∷ 8 ∷ []) 8  -- the step from 1 to 0
+    ∷ refused (take 21 P) (7 ∷ 8 ∷ []) 10  -- its last byte dropped
+    ∷ refused (set P 21 0x01) (7 ∷ 8 ∷ []) 15  -- its last byte 01
+    ∷ refused (distance 14 5) (7 ∷ 8 ∷ 9 ∷ []) 16  -- five times: 65 states
+    ∷ refused P (7 ∷ []) 17  -- a row of one place
+    ∷ refused (take 21 P) (7 ∷ []) 10  -- 10 and 17
+    ∷ refused (distance 14 5) (7 ∷ []) 16  -- 16 and 17
+    ∷ []
+
+-- plans that an analyst gets wrong by an error
+abbrev mistaken : List Case
+mistaken =
+    -- joining, not intersecting, the sets at a meeting: state 0 of node 3 would come to both exits
+    verified (of-every 5 (job 3 0 2 ∷ job 2 3 4 ∷ []) (step 0 1 1 ∷ []) (channel 0 ∷ []) (link 1 2 0 ∷ []) (link 3 4 0 ∷ []))
+    (1 ∷ 2 ∷ 3 ∷ 4 ∷ 5 ∷ 6 ∷ []) (counts 3 1 2 6 40 2) (1 ∷ 2 ∷ 2 ∷ 3 ∷ 2 ∷ 6 ∷ [])
+    -- dropping the empty set of positions, state 2: the exit would hold nothing
+    ∷ inconclusive (of-every 3 (job 3 0 2 ∷ []) (step 0 1 1 ∷ step 1 2 1 ∷ []) [] [] []) (7 ∷ 8 ∷ 9 ∷ []) (counts 3 0 0 3 33 4) (1 ∷ 2 ∷ 4 ∷ [])
+    -- forgetting the third job at a meeting: its exit would hold nothing
+    ∷ inconclusive (of-none 6 (job 2 0 1 ∷ job 2 2 3 ∷ job 2 4 5 ∷ []) [] (channel 1 ∷ []) (link 0 1 0 ∷ []) (link 2 3 0 ∷ []))
+    (1 ∷ 2 ∷ 3 ∷ 4 ∷ 5 ∷ 6 ∷ []) (counts 3 1 2 7 39 2) (1 ∷ 2 ∷ 1 ∷ 2 ∷ 3 ∷ 2 ∷ [])
+    -- sending unwatched events to the dead state: the exit would hold state 2
+    ∷ verified (of-every 3 (job 3 0 2 ∷ []) (step 0 1 1 ∷ step 1 2 2 ∷ []) [] [] []) (7 ∷ 8 ∷ 9 ∷ []) (counts 3 0 0 3 33 2) (1 ∷ 2 ∷ 2 ∷ [])
+    -- judging by the union of the exit sets, {1} and {0,1}
+    ∷ verified (of-every 3 (job 2 0 1 ∷ job 1 2 2 ∷ []) (step 0 1 1 ∷ []) [] [] []) (7 ∷ 8 ∷ 9 ∷ []) (counts 3 0 1 4 44 2) (1 ∷ 2 ∷ 3 ∷ [])
+    ∷ []
+
+-- the table
+abbrev pub cases : List Case
+cases = judged ++ turnedDown ++ mistaken
+
+-- what two rounds of the rules give, which are enough for all of them
+abbrev found : Case → Option Outcome
+found c = evaluate 2 (c .bytes) (c .before)
+
+abbrev said : Case → Option Outcome
+said c = some (c .answer, c .after)
+
+answers : map found cases ≡ map said cases
+unfolding bitsOf valueFrom fieldAt eventsFrom eventsAt row planOf first anyFrom ownersFrom total countsOutside pushAll itemAt read itemsRefusal statesOf states build collect index positions.step watchedBelow digit gatherBelow tableOf acceptingBelow positions.final positions.accepts padded each meetingsOf edgesOf ones pairsOf finalBelow rounded
+answers = refl
+
+-- the outcomes of the table are what the judge promises
+pub all-cases : {c : Case} → List·Memᴰ c cases → Judged (c .bytes) (c .before) (c .answer) (c .after)
+all-cases {c} m = evaluate-judged 2 (c .bytes) (c .before) (c .answer) (c .after) (agree found said answers m)
+
+-- and it promises no others
+pub known : {c : Case} → List·Memᴰ c cases → (a : Answer) (after : List ℕ) → Judged (c .bytes) (c .before) a after
+    → (a ≡ c .answer) × (after ≡ c .after)
+known {c} m a after j = judged-unique (c .bytes) (c .before) a (c .answer) after (c .after) j (all-cases m)

@@ -1,0 +1,10 @@
+-- Laws of the judge.
+pub mod Refusals
+pub mod Copies
+pub mod Sound
+pub mod Row
+pub mod Parts
+pub mod Settled
+pub mod Unique
+pub mod Evaluate
+pub mod Cases

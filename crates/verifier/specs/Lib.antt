@@ -1,0 +1,4 @@
+pub mod Order
+pub mod Property
+pub mod Judged
+pub mod Analysis
