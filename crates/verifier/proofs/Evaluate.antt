@@ -18,6 +18,7 @@ use Rattle.regex.specs.Expression.{Expression}
 use Rattle.automaton.specs.Automaton.{statesOf}
 use Rattle.pattern.specs.Refusals.{expressionOf, readable, overLimit, tooManyStates, acceptable}
 use Rattle.pattern.proofs.Part.{before-items}
+use Rattle.graph.specs.Flow.{onlyHolders}
 use Rattle.flow.proofs.Evaluate.{rounds, closed, evaluated}
 use Rattle.verdict.specs.declared.Answer.{Answer}
 use Rattle.verdict.specs.declared.Answer.the-variants.{Refused}
@@ -43,8 +44,8 @@ verdictOn p r M before = (verdict (verified (p .kind) (finalSet p r M) (acceptin
 -- what k rounds of the flow rules give; none where they are too few
 abbrev byRounds : (k : ℕ) → Plan → Expression → (before : List ℕ) → Option Outcome
 byRounds k p r before =
-    let sets = rounds p (table p r) false (states p r) k in
-    cond (closed p (table p r) false (states p r) sets && leb (length sets) 256) (some (verdictOn p r (padded 256 sets) before)) none
+    let sets = rounds p (table p r) onlyHolders (states p r) k in
+    cond (closed p (table p r) onlyHolders (states p r) sets && leb (length sets) 256) (some (verdictOn p r (padded 256 sets) before)) none
 
 abbrev outcome : (refused : Option ℕ) → (k : ℕ) → Plan → Expression → (before : List ℕ) → Option Outcome
 outcome (some n) k p r before = some (Refused n, before)
@@ -98,12 +99,12 @@ module _ (k : ℕ) (b before : List ℕ) where
   meets none h x e =
       let p = planOf b in
       let r = expressionOf b in
-      let sets = rounds p (table p r) false (states p r) k in
+      let sets = rounds p (table p r) onlyHolders (states p r) k in
       let through = let-through _ _ x e in
-      let tests = and-eq-true-iff (closed p (table p r) false (states p r) sets) (leb (length sets) 256) .0 (through .0) in
+      let tests = and-eq-true-iff (closed p (table p r) onlyHolders (states p r) sets) (leb (length sets) 256) .0 (through .0) in
       subst (λ (y : Outcome). Answered none p r before (y .0) (y .1)) (through .1)
       (answered p r (few-states b (length before) h) (legal-plan b (length before) h) (padded 256 sets)
-      (evaluated p (table p r) false (states p r) k sets refl (tests .0) (leb-true (length sets) 256 (tests .1))) before (long-row b (length before) h))
+      (evaluated p (table p r) onlyHolders (states p r) k sets refl (tests .0) (leb-true (length sets) 256 (tests .1))) before (long-row b (length before) h))
 
   pub evaluate-judged : (a : Answer) (after : List ℕ) → evaluate k b before ≡ some (a, after) → Judged b before a after
   evaluate-judged a after e = meets (first (order (length before)) b) refl (a, after) e
