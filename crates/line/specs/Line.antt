@@ -38,12 +38,12 @@ fields c =
     ++ text " fill " ++ decimal (c .fill)
     ++ text " final " ++ hexadecimal (c .ends)
 
--- "verdict (`verified` or `inconclusive`)", then the fields; "A refusal prints `refused 5`, with its number"; the line ends
--- with one line feed
+-- "verdict (`verified` or `inconclusive`)", then the fields; "A refusal prints `refused 5`, with its number."
 abbrev pub told : Answer → List ℕ
 told (Refused n) = text "refused " ++ decimal n
 told (Verified c) = text "verified" ++ fields c
 told (Inconclusive c) = text "inconclusive" ++ fields c
 
+-- "prints one line": it ends with one line feed
 unfoldable pub lineOf : Answer → List ℕ
 lineOf a = told a ++ text "\n"

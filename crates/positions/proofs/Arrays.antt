@@ -11,7 +11,7 @@ use lib.Seq.{getD-set-same, getD-set-other}
 use Rattle.masks.specs.Mask.{has}
 use Rattle.rows.proofs.Rows.{row-at, row-ext}
 use Rattle.rows.specs.Rows.{row, place}
-use Rattle.regex.proofs.Stack.{Operand as Masks}
+use Rattle.regex.specs.Stack.{Operand as Masks}
 use Rattle.positions.specs.declared.Operand.{Operand}
 use Rattle.positions.specs.declared.Stack.{Stack}
 use Rattle.positions.specs.Drafts.{nothing, operandOf, listed, operandsIn, Pushed, gains}

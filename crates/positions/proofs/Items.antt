@@ -10,9 +10,8 @@ use Rattle.rows.specs.Rows.{row, place}
 use Rattle.regex.specs.Expression.{Expression}
 use Rattle.regex.specs.Items.{empty, events, sequence, choice, repeat, push}
 use Rattle.regex.specs.Positions.{size}
-use Rattle.regex.proofs.Operands.{free}
 use Rattle.regex.proofs.Stack as stack
-use Rattle.regex.proofs.Stack.{Operand as Masks, masks, operandAt, follows, holdings, bothOf, eitherOf, manyOf}
+use Rattle.regex.specs.Stack.{free, Operand as Masks, masks, operandAt, follows, holdings, bothOf, eitherOf, manyOf}
 use Rattle.items.specs.Refusals.{itemOf}
 use Rattle.positions.specs.declared.Operand.{Operand}
 use Rattle.positions.specs.declared.Draft.{Draft}

@@ -14,8 +14,9 @@ use Rattle.rows.proofs.Rows.{row-more}
 use Rattle.regex.specs.Expression.{Expression}
 use Rattle.regex.specs.Items.{push, operands, newest, patternOf}
 use Rattle.regex.specs.Positions.{size, first, after, final}
-use Rattle.regex.proofs.Operands.{push-none, push-more, push-length, free, free-push, Counted, counted-none, counted-push, counted-free}
-use Rattle.regex.proofs.Stack.{Operand as Masks, operandAt, follows, holdings, holdings-one}
+use Rattle.regex.proofs.Operands.{push-none, push-more, push-length, free-push, Counted, counted-none, counted-push, counted-free}
+use Rattle.regex.proofs.Stack.{holdings-one}
+use Rattle.regex.specs.Stack.{free, Operand as Masks, operandAt, follows, holdings}
 use Rattle.items.specs.Refusals.{itemOf}
 use Rattle.items.specs.Tables.{itemOn, itemsOn}
 use Rattle.items.specs.Postfix.{Postfix}

@@ -10,8 +10,7 @@ use Rattle.masks.specs.Mask.{has}
 use Rattle.rows.specs.Rows.{row}
 use Rattle.regex.specs.Expression.{Expression}
 use Rattle.regex.specs.Items.{Item, push}
-use Rattle.regex.proofs.Operands.{free}
-use Rattle.regex.proofs.Stack.{Operand as Masks, masks, follows, holdings}
+use Rattle.regex.specs.Stack.{free, Operand as Masks, masks, follows, holdings}
 use Rattle.positions.specs.declared.Operand.{Operand}
 use Rattle.positions.specs.declared.Stack.{Stack}
 use Rattle.positions.specs.declared.Pair.{Pair}

@@ -6,7 +6,7 @@ ghost use mathlib.Core.List.{[]};
 ghost use Prim.Native.Nat.{_≤_, _<_};
 ghost use Rattle.rows.specs.Rows.{row, place};
 ghost use Rattle.regex.specs.Items.{empty, events, sequence, choice, repeat, arity, patternOf};
-ghost use Rattle.regex.proofs.Stack.{bothOf, eitherOf};
+ghost use Rattle.regex.specs.Stack.{bothOf, eitherOf};
 ghost use Rattle.items.specs.Refusals.{itemOf};
 ghost use Rattle.items.specs.Tables.{itemsOn};
 ghost use Rattle.items.specs.Postfix.{Postfix};

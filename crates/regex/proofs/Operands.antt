@@ -7,6 +7,7 @@ use lib.ListN.{length}
 use Rattle.regex.specs.Expression.{Expression, eps, set, seq, alt, star}
 use Rattle.regex.specs.Items.{Item, empty, events, sequence, choice, repeat, arity, push, pushAll, operands}
 use Rattle.regex.specs.Positions.{size}
+use Rattle.regex.specs.Stack.{free}
 
 -- ---- one item more
 
@@ -36,10 +37,6 @@ push-length repeat (r ∷ st) h = omega arith
 push-length repeat [] h = absurd (omega arith)
 
 -- ---- the number of the next position: those of the newest operand are the last
-
-abbrev pub free : List Expression → ℕ
-free [] = 1
-free (r ∷ st) = free st + size r
 
 pub free-push : (i : Item) (st : List Expression) → free st ≤ free (push i st)
 free-push empty st = omega arith

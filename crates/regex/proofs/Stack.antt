@@ -1,6 +1,6 @@
--- The masks of a stack of operands, and how each item changes them.
+-- How each item changes the masks of a stack of operands.
 use mathlib.Core.Path.{_≡_, refl}
-use mathlib.Core.Bool.{Bool, true, _||_, _&&_, cond}
+use mathlib.Core.Bool.{cond}
 use mathlib.Core.List.{List, [], _∷_}
 use Prim.Native.Nat.{ℕ, _+_, _^_}
 use native.Mathlib.Nat.{add-zero}
@@ -9,33 +9,9 @@ use lib.Bits.{bitOr, or-zero-r}
 use Rattle.masks.specs.Mask.{has}
 use Rattle.regex.specs.Expression.{Expression}
 use Rattle.regex.specs.Items.{empty, events, sequence, choice, repeat, push}
-use Rattle.regex.specs.Positions.{null, size, first, last, follow, holding}
+use Rattle.regex.specs.Positions.{size, first, last, holding}
 use Rattle.masks.proofs.Choices.{or-assoc}
-use Rattle.regex.proofs.Operands.{free}
-
--- what an item needs to know of an operand
-pub record Operand : Type 0 where
-  pub null : Bool
-  pub first : ℕ
-  pub last : ℕ
-
--- of one whose positions are numbered from i on
-abbrev pub operandAt : ℕ → Expression → Operand
-operandAt i r = record { null = null r; first = first i r; last = last i r }
-
-abbrev pub masks : List Expression → List Operand
-masks [] = []
-masks (r ∷ st) = operandAt (free st) r ∷ masks st
-
--- the positions that may follow p, in all the operands
-abbrev pub follows : List Expression → ℕ → ℕ
-follows [] p = 0
-follows (r ∷ st) p = bitOr (follows st p) (follow (free st) r p)
-
--- the positions whose set holds the event e
-abbrev pub holdings : List Expression → ℕ → ℕ
-holdings [] e = 0
-holdings (r ∷ st) e = bitOr (holdings st e) (holding (free st) r e)
+use Rattle.regex.specs.Stack.{free, follows, holdings}
 
 -- ---- the empty string
 
@@ -60,13 +36,6 @@ module _ (m : ℕ) (st : List Expression) where
 
 -- ---- sequence: what begins the newer operand may follow what ends the older
 
-abbrev pub bothOf : Operand → Operand → Operand
-bothOf r s = record {
-  null = r .null && s .null;
-  first = bitOr (r .first) (cond (r .null) (s .first) 0);
-  last = bitOr (cond (s .null) (r .last) 0) (s .last);
-}
-
 module _ (s r : Expression) (st : List Expression) where
   pub free-sequence : free (push sequence (s ∷ r ∷ st)) ≡ free (s ∷ r ∷ st)
   free-sequence = omega arith
@@ -81,9 +50,6 @@ module _ (s r : Expression) (st : List Expression) where
 
 -- ---- choice
 
-abbrev pub eitherOf : Operand → Operand → Operand
-eitherOf r s = record { null = r .null || s .null; first = bitOr (r .first) (s .first); last = bitOr (r .last) (s .last) }
-
 module _ (s r : Expression) (st : List Expression) where
   pub free-choice : free (push choice (s ∷ r ∷ st)) ≡ free (s ∷ r ∷ st)
   free-choice = omega arith
@@ -95,9 +61,6 @@ module _ (s r : Expression) (st : List Expression) where
   holdings-choice e = simp or-assoc
 
 -- ---- star: what begins the operand may follow what ends it
-
-abbrev pub manyOf : Operand → Operand
-manyOf r = record { null = true; first = r .first; last = r .last }
 
 module _ (r : Expression) (st : List Expression) where
   pub follows-repeat : (p : ℕ)

@@ -1,3 +1,4 @@
 pub mod Expression
 pub mod Items
 pub mod Positions
+pub mod Stack

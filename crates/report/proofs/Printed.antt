@@ -1,4 +1,4 @@
--- Each plan has one line, and it never tells refusal 17. Assumes nothing.
+-- Each plan has one line, and refusal 17 has no part in it. Assumes nothing.
 use mathlib.Core.Path.{_≡_, refl, sym, ap, _∙_}
 use mathlib.Core.Bool.{Bool, cond}
 use mathlib.Core.List.{List}
@@ -13,7 +13,7 @@ use Rattle.plan.proofs.Legality.{legal}
 use Rattle.pattern.specs.Refusals.{readable, tooManyStates, acceptable}
 use Rattle.pattern.proofs.Part.{before-items}
 use Rattle.verdict.specs.declared.Answer.{Answer}
-use Rattle.verifier.specs.Order.{shortRow, order}
+use Rattle.verifier.specs.Order.{shortRow, judgeable}
 use Rattle.verifier.proofs.Unique.{judged-unique}
 use Rattle.line.specs.declared.Line.{Line}
 use Rattle.line.specs.Line.{lineOf}
@@ -25,9 +25,9 @@ reports-unique b l m x y =
     x .told ∙ ap (λ (a : Answer). kept (lineOf a)) (judged-unique b (replicate 256 0) (x .answer) (y .answer) (x .row) (y .row) (x .judged) (y .judged) .0)
     ∙ sym (y .told)
 
--- a row of 256 places is long enough for every plan: the refusals are 1 to 16
-pub never-17 : (b : List ℕ) → first (order 256) b ≡ first acceptable b
-never-17 b = first-last acceptable (refuse 17 (shortRow 256)) b ∙ go (first acceptable b) refl
+-- a row of 256 places is long enough for every plan: the refusals are those of the plan on its own, 1 to 16
+pub enough-places : (b : List ℕ) → first (judgeable 256) b ≡ first acceptable b
+enough-places b = first-last acceptable (refuse 17 (shortRow 256)) b ∙ go (first acceptable b) refl
   where
     go : (o : Option ℕ) → first acceptable b ≡ o → orElse o (refuse 17 (shortRow 256) b) ≡ o
     go (some n) e = refl

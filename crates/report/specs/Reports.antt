@@ -15,4 +15,5 @@ pub record Reports (b : List ℕ) (line : Line) : Type 0 where
   pub row : List ℕ
   pub judged : Judged b (replicate 256 0) answer row
   pub told : line ≡ kept (lineOf answer)
+  -- the line is within its array
   pub fits : line .used ≤ 128

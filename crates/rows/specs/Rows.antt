@@ -15,3 +15,7 @@ padded n xs = xs ++ replicate (n - length xs) 0
 -- what stands at a place, and 0 past the end
 abbrev pub place : List ℕ → ℕ → ℕ
 place xs i = getD xs i 0
+
+-- what stands in a table of rows, in row s at place e
+abbrev pub cell : List (List ℕ) → ℕ → ℕ → ℕ
+cell table s e = place (getD table s []) e

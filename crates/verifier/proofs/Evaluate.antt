@@ -18,13 +18,13 @@ use Rattle.regex.specs.Expression.{Expression}
 use Rattle.automaton.specs.Automaton.{statesOf}
 use Rattle.pattern.specs.Refusals.{expressionOf, readable, overLimit, tooManyStates, acceptable}
 use Rattle.pattern.proofs.Part.{before-items}
-use Rattle.graph.specs.Flow.{onlyHolders}
+use Rattle.graph.specs.Flow.{edgeRule}
 use Rattle.flow.proofs.Evaluate.{rounds, closed, evaluated}
 use Rattle.verdict.specs.declared.Answer.{Answer}
 use Rattle.verdict.specs.declared.Answer.the-variants.{Refused}
 use Rattle.verdict.specs.Verdict.{verified}
 use Rattle.verdict.specs.Answer.{verdict}
-use Rattle.verifier.specs.Order.{shortRow, order}
+use Rattle.verifier.specs.Order.{shortRow, judgeable}
 use Rattle.verifier.specs.Property.{listed, numbered, states, table, accepting}
 use Rattle.verifier.specs.Judged.{finalSet, countsOf, Answered, Judged}
 use Rattle.verifier.specs.Analysis.{written}
@@ -39,20 +39,20 @@ Outcome = Answer × List ℕ
 
 -- the verdict on the sets M, and the row that holds them
 abbrev verdictOn : Plan → Expression → (M before : List ℕ) → Outcome
-verdictOn p r M before = (verdict (verified (p .kind) (finalSet p r M) (accepting p r)) (countsOf p r M), written (p .nodes) M before)
+verdictOn p r M before = (verdict (verified (p .kind) (finalSet p M) (accepting p r)) (countsOf p r M), written (p .nodes) M before)
 
 -- what k rounds of the flow rules give; none where they are too few
 abbrev byRounds : (k : ℕ) → Plan → Expression → (before : List ℕ) → Option Outcome
 byRounds k p r before =
-    let sets = rounds p (table p r) onlyHolders (states p r) k in
-    cond (closed p (table p r) onlyHolders (states p r) sets && leb (length sets) 256) (some (verdictOn p r (padded 256 sets) before)) none
+    let sets = rounds p (table p r) edgeRule (states p r) k in
+    cond (closed p (table p r) edgeRule (states p r) sets && leb (length sets) 256) (some (verdictOn p r (padded 256 sets) before)) none
 
 abbrev outcome : (refused : Option ℕ) → (k : ℕ) → Plan → Expression → (before : List ℕ) → Option Outcome
 outcome (some n) k p r before = some (Refused n, before)
 outcome none k p r before = byRounds k p r before
 
 abbrev pub evaluate : (k : ℕ) → (b before : List ℕ) → Option Outcome
-evaluate k b before = outcome (first (order (length before)) b) k (planOf b) (expressionOf b) before
+evaluate k b before = outcome (first (judgeable (length before)) b) k (planOf b) (expressionOf b) before
 
 -- ---- where no refusal applies
 
@@ -67,7 +67,7 @@ within-limit : (o : Option (List ℕ)) → overLimit o ≡ false → o ≡ some 
 within-limit none e = cc
 within-limit (some es) e = refl
 
-module _ (b : List ℕ) (places : ℕ) (passed : first (order places) b ≡ none) where
+module _ (b : List ℕ) (places : ℕ) (passed : first (judgeable places) b ≡ none) where
   past-17 : (first acceptable b ≡ none) × (shortRow places b ≡ false)
   past-17 = last-none acceptable 17 (shortRow places) b passed
 
@@ -91,7 +91,7 @@ let-through true x y e = (refl, Option·some-injective x y e)
 let-through false x y e = absurd (Option·none-ne-some y e)
 
 module _ (k : ℕ) (b before : List ℕ) where
-  meets : (o : Option ℕ) → first (order (length before)) b ≡ o → (x : Outcome) → outcome o k (planOf b) (expressionOf b) before ≡ some x
+  meets : (o : Option ℕ) → first (judgeable (length before)) b ≡ o → (x : Outcome) → outcome o k (planOf b) (expressionOf b) before ≡ some x
       → Answered o (planOf b) (expressionOf b) before (x .0) (x .1)
   meets (some n) h x e =
       subst (λ (y : Outcome). Answered (some n) (planOf b) (expressionOf b) before (y .0) (y .1)) (Option·some-injective (Refused n, before) x e)
@@ -99,12 +99,12 @@ module _ (k : ℕ) (b before : List ℕ) where
   meets none h x e =
       let p = planOf b in
       let r = expressionOf b in
-      let sets = rounds p (table p r) onlyHolders (states p r) k in
+      let sets = rounds p (table p r) edgeRule (states p r) k in
       let through = let-through _ _ x e in
-      let tests = and-eq-true-iff (closed p (table p r) onlyHolders (states p r) sets) (leb (length sets) 256) .0 (through .0) in
+      let tests = and-eq-true-iff (closed p (table p r) edgeRule (states p r) sets) (leb (length sets) 256) .0 (through .0) in
       subst (λ (y : Outcome). Answered none p r before (y .0) (y .1)) (through .1)
       (answered p r (few-states b (length before) h) (legal-plan b (length before) h) (padded 256 sets)
-      (evaluated p (table p r) onlyHolders (states p r) k sets refl (tests .0) (leb-true (length sets) 256 (tests .1))) before (long-row b (length before) h))
+      (evaluated p (table p r) edgeRule (states p r) k sets refl (tests .0) (leb-true (length sets) 256 (tests .1))) before (long-row b (length before) h))
 
   pub evaluate-judged : (a : Answer) (after : List ℕ) → evaluate k b before ≡ some (a, after) → Judged b before a after
-  evaluate-judged a after e = meets (first (order (length before)) b) refl (a, after) e
+  evaluate-judged a after e = meets (first (judgeable (length before)) b) refl (a, after) e

@@ -16,7 +16,7 @@ use Rattle.automaton.specs.Automaton.{statesOf}
 use Rattle.pattern.specs.Refusals.{expressionOf, readable, overLimit, tooManyStates, acceptable}
 use Rattle.verdict.specs.declared.Answer.{Answer}
 use Rattle.verdict.specs.declared.Answer.the-variants.{Refused}
-use Rattle.verifier.specs.Order.{shortRow, order}
+use Rattle.verifier.specs.Order.{shortRow, judgeable}
 use Rattle.verifier.specs.Judged.{Answered, Judged}
 use Rattle.verifier.specs.Analysis.{lateRefusal}
 
@@ -24,16 +24,16 @@ use Rattle.verifier.specs.Analysis.{lateRefusal}
 
 module _ (places : ℕ) (b : List ℕ) where
   in-order : (o : Option ℕ) → first readable b ≡ o
-      → first (order places) b ≡ orElse (orElse o (refuse 16 tooManyStates b)) (refuse 17 (shortRow places) b)
+      → first (judgeable places) b ≡ orElse (orElse o (refuse 16 tooManyStates b)) (refuse 17 (shortRow places) b)
   in-order o e =
       first-last acceptable (refuse 17 (shortRow places)) b
       ∙ ap (λ (x : Option ℕ). orElse x (refuse 17 (shortRow places) b)) (first-last readable (refuse 16 tooManyStates) b)
       ∙ ap (λ (x : Option ℕ). orElse (orElse x (refuse 16 tooManyStates b)) (refuse 17 (shortRow places) b)) e
 
-  pub refused-early : (n : ℕ) → first readable b ≡ some n → first (order places) b ≡ some n
+  pub refused-early : (n : ℕ) → first readable b ≡ some n → first (judgeable places) b ≡ some n
   refused-early n e = in-order (some n) e
 
-  refused-late : first readable b ≡ none → first (order places) b ≡ lateRefusal (planOf b) (expressionOf b) places
+  refused-late : first readable b ≡ none → first (judgeable places) b ≡ lateRefusal (planOf b) (expressionOf b) places
   refused-late e = in-order none e
 
 -- ---- 16, 17, or none of them

@@ -21,7 +21,7 @@ use Rattle.verdict.specs.declared.Answer.{Answer}
 use Rattle.verdict.specs.declared.Answer.the-variants.{Refused, Verified, Inconclusive}
 use Rattle.verdict.specs.Verdict as verdicts
 use Rattle.verdict.specs.Answer.{refusalOf, verdictOf, verdict}
-use Rattle.verifier.specs.Order.{order}
+use Rattle.verifier.specs.Order.{judgeable}
 use Rattle.verifier.specs.Property.{accepting}
 use Rattle.verifier.specs.Judged.{Holds, Verdict, finalSet, countsOf, Answered, Judged}
 
@@ -73,7 +73,7 @@ module _ (p : Plan) (r : Expression) (before : List ℕ) where
       counts = x .counted ∙ ap (countsOf p r) rows ∙ sym (y .counted)
 
       flags : a ≡ b
-      flags = flags-equal a b (subst (λ w. (a ≡ true) ↔ verdicts.Verified (p .kind) (finalSet p r w) (accepting p r)) rows (x .verdict)) (y .verdict)
+      flags = flags-equal a b (subst (λ w. (a ≡ true) ↔ verdicts.Verified (p .kind) (finalSet p w) (accepting p r)) rows (x .verdict)) (y .verdict)
 
 -- ---- the promise
 
@@ -90,4 +90,4 @@ answered-unique none p r before x y u v a b =
 
 -- of the bytes of a plan and a lent row
 pub judged-unique : (b before : List ℕ) (x y : Answer) (u v : List ℕ) → Judged b before x u → Judged b before y v → (x ≡ y) × (u ≡ v)
-judged-unique b before = answered-unique (first (order (length before)) b) (planOf b) (expressionOf b) before
+judged-unique b before = answered-unique (first (judgeable (length before)) b) (planOf b) (expressionOf b) before

@@ -11,6 +11,6 @@ use Rattle.pattern.specs.Refusals.{acceptable}
 abbrev pub shortRow : (places : ℕ) → List ℕ → Bool
 shortRow places b = ltb places (planOf b .nodes)
 
--- "Checked in this order": 1 to 16, then 17
-abbrev pub order : (places : ℕ) → List (Check (List ℕ))
-order places = acceptable ++ (refuse 17 (shortRow places) ∷ [])
+-- "Checked in this order": 1 to 16, then 17. Where none applies the plan is judged
+abbrev pub judgeable : (places : ℕ) → List (Check (List ℕ))
+judgeable places = acceptable ++ (refuse 17 (shortRow places) ∷ [])

@@ -1,6 +1,6 @@
 -- `take_choice` lays the choice of the two newest operands in their place. Assumes nothing.
 use mathlib.Core.Path.{refl, ap, _∙_}
-use Rattle.regex.proofs.Stack.{eitherOf}
+use Rattle.regex.specs.Stack.{eitherOf}
 use Rattle.positions.specs.declared.Pair.{Pair}
 use Rattle.positions.specs.Drafts.{operandOf}
 use Rattle.positions.proofs.Items.{choice-taken}

@@ -1,7 +1,7 @@
 -- `take_sequence` lays the sequence of the two newest operands in their place. Assumes nothing.
 use mathlib.Core.Path.{refl, ap, _∙_}
 use Rattle.rows.specs.Rows.{row, place}
-use Rattle.regex.proofs.Stack.{bothOf}
+use Rattle.regex.specs.Stack.{bothOf}
 use Rattle.positions.specs.declared.Pair.{Pair}
 use Rattle.positions.specs.Drafts.{operandOf, gains}
 use Rattle.positions.proofs.Items.{sequence-taken}
