@@ -43,15 +43,23 @@ fn with_text(line: Line, text: &[u8]) -> Line
     }
 }
 
+// The line, and behind it a name and what it names.
+fn with_field(line: Line, name: &[u8], value: &[u8]) -> Line
+    requires { ⌜ ((l : List ℕ) × (line ≡ kept l) × (length l + length (now name) + length (now value) ≤ 128)) ⌝ }
+    ensures { λ r. ⌜ ((l : List ℕ) → line ≡ kept l → r ≡ kept (l ++ now (name .entry) ++ now (value .entry))) ⌝ }
+{
+    let named = with_text(line, name);
+    with_text(named, value)
+}
+
 // The line, and behind it a text and a number in decimal.
 fn with_count(line: Line, text: &[u8], n: u32) -> Line
     requires { ⌜ ((l : List ℕ) × (line ≡ kept l) × (length l + length (now text) + 10 ≤ 128)) ⌝ }
     ensures { λ r. ⌜ ((l : List ℕ) → line ≡ kept l → r ≡ kept (l ++ now (text .entry) ++ decimal n)) ⌝ }
 {
-    let named = with_text(line, text);
     let mut digits = [0u8; 20];
     let k = io::decimal(n as u64, &mut digits);
-    with_text(named, &digits[..k])
+    with_field(line, text, &digits[..k])
 }
 
 // The line, and behind it a text and a set in hexadecimal.
@@ -59,10 +67,9 @@ fn with_set(line: Line, text: &[u8], m: u64) -> Line
     requires { ⌜ ((l : List ℕ) × (line ≡ kept l) × (length l + length (now text) + 16 ≤ 128)) ⌝ }
     ensures { λ r. ⌜ ((l : List ℕ) → line ≡ kept l → r ≡ kept (l ++ now (text .entry) ++ hexadecimal m)) ⌝ }
 {
-    let named = with_text(line, text);
     let mut digits = [0u8; 16];
     let k = io::hex(m, 16, &mut digits);
-    with_text(named, &digits[..k])
+    with_field(line, text, &digits[..k])
 }
 
 // The line of a verdict: its word, then its counts and its final set.

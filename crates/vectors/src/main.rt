@@ -30,8 +30,8 @@ fn replay(name: &[u8], plan: &[u8], places: usize)
     show(row);
 }
 
-// One job.
-fn one_job() {
+// P, and P cut short or with a short row.
+fn of_p() {
     // P: one job of two nodes, 0 to 1 by event 1; the alphabet is {1}, the pattern event 1, the kind every
     let p: &[u8] =
         b"\x08\x08\x02\x00\x00\x00\x06\x00\x00\x00\x00\x08\x00\x04\x00\x04\x20\x30\x00\x00\x00\x00";
@@ -41,6 +41,10 @@ fn one_job() {
     replay(b"P with 10 bytes", &p[..10], 2);
     replay(b"P with 16 bytes", &p[..16], 2);
     replay(b"P without its last byte", &p[..21], 2);
+}
+
+// One job, under the pattern of P.
+fn one_job() {
     // P of kind none
     replay(
         b"P of kind none",
@@ -59,6 +63,10 @@ fn one_job() {
         b"\x08\x04\x00\x00\x00\x02\x06\x00\x00\x00\x00\x04\x00\x00\x30\x00\x00\x00\x00",
         1,
     );
+}
+
+// One job, under an empty alphabet and the empty string.
+fn nothing_watched() {
     // P with an empty alphabet, the empty string as pattern, and a quiet step
     replay(
         b"one quiet step",
@@ -83,6 +91,10 @@ fn one_job() {
         b"\x08\x20\x00\x00\x00\x00\x04\x00\x00\x00\x00\x20\x00\x1c\x00",
         9,
     );
+}
+
+// Patterns with many states.
+fn many_states() {
     // P with alphabet {1,2} and the pattern star of {1,2}, then {1}, then {1,2} four times
     replay(
         b"four times",
@@ -119,8 +131,8 @@ fn more_jobs() {
     );
 }
 
-// A plan for each refusal that is not yet among them.
-fn refused() {
+// Heads and jobs that are refused, a plan for each number that is not yet among them.
+fn refused_jobs() {
     // P with 17 jobs
     replay(
         b"P with 17 jobs",
@@ -145,6 +157,10 @@ fn refused() {
         b"\x08\x08\x02\x00\x00\x00\x06\x00\x00\x00\x00\x08\x00\x08\x00\x04\x20\x30\x00\x00\x00\x00",
         2,
     );
+}
+
+// Steps and calls that are refused, likewise.
+fn refused_steps() {
     // two jobs of two nodes, and a step from 0 to 2
     replay(
         b"a step from job to job",
@@ -163,6 +179,10 @@ fn refused() {
         b"\x08\x08\x00\x02\x00\x00\x06\x00\x00\x00\x00\x08\x00\x04\x00\x04\x00\x30\x00\x00\x00\x00",
         2,
     );
+}
+
+// Items that are refused, likewise.
+fn refused_items() {
     // P with an item of kind 5
     replay(
         b"an item of kind 5",
@@ -196,7 +216,12 @@ fn refused() {
 }
 
 fn main() {
+    of_p();
     one_job();
+    nothing_watched();
+    many_states();
     more_jobs();
-    refused();
+    refused_jobs();
+    refused_steps();
+    refused_items();
 }
