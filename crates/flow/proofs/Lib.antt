@@ -4,3 +4,5 @@ pub mod Work
 pub mod Exact
 pub mod Evaluate
 pub mod Cases
+pub mod Lending
+pub mod Stages
