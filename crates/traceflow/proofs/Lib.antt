@@ -1,0 +1,3 @@
+-- Laws of what is exported.
+pub mod Place
+pub mod Unique

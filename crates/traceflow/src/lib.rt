@@ -1,0 +1,69 @@
+// The judge and the pattern part, for programs in C and Rust.
+use verdict::Answer;
+use verdict::Counts;
+ghost use mathlib.Core.Path.{_≡_};
+ghost use Prim.Native.Nat.{_≤_};
+ghost use Rattle.traceflow.specs.Exported.{truth, valuesOf, Exported, atEnd, placeOf};
+
+// A truth value as a number.
+fn number(b: bool) -> u64
+    ensures { λ r. ⌜ r ≡ truth b ⌝ }
+{
+    if b { 1 } else { 0 }
+}
+
+// The values of a verdict, in the order in which they are told.
+fn values(verified: bool, c: Counts) -> [u64; 7]
+    ensures { λ r. ⌜ r ≡ valuesOf verified c ⌝ }
+{
+    [
+        number(verified),
+        c.states as u64,
+        c.meetings as u64,
+        c.ordering as u64,
+        c.pairs as u64,
+        c.fill as u64,
+        c.ends,
+    ]
+}
+
+// The answer to a plan: 0 where it is judged, with the sets in the row and the values of the verdict in `counts`; else the number
+// of the first refusal that applies, with both as they were.
+#[no_mangle]
+pub extern "C" fn traceflow_judge(plan: &[u8], row: &mut [u64], counts: &mut [u64; 7]) -> u32
+    ensures { λ r. ⌜ Exported (now (plan .entry)) (now (row .entry)) (now (counts .entry)) r (now (row .exit)) (now (counts .exit)) ⌝ }
+{
+    let answer = verifier::judge(plan, row);
+    match answer {
+        Answer::Refused(n) => n,
+        Answer::Verified(c) => {
+            *counts = values(true, c);
+            0
+        }
+        Answer::Inconclusive(c) => {
+            *counts = values(false, c);
+            0
+        }
+    }
+}
+
+// The place of a part of `bytes` bytes at the end of `all`: its first byte and its length, 0 and 0 where it has none.
+fn at_end(all: usize, bytes: usize) -> [usize; 2]
+    requires { ⌜ bytes ≤ all ⌝ }
+    ensures { λ r. ⌜ r ≡ atEnd all bytes ⌝ }
+{
+    if bytes == 0 {
+        [0, 0]
+    } else {
+        [all - bytes, bytes]
+    }
+}
+
+// The place of the pattern's part in a plan: its first byte and its length, 0 and 0 where one of 1 to 16 applies.
+#[no_mangle]
+pub extern "C" fn traceflow_pattern_part(plan: &[u8], place: &mut [usize; 2])
+    ensures { λ _. ⌜ now (place .exit) ≡ placeOf (now (plan .entry)) ⌝ }
+{
+    let part = pattern::pattern_part(plan);
+    *place = at_end(plan.len(), part.len());
+}

@@ -1,0 +1,148 @@
+//! Faults made on purpose in the jobs, steps, calls and accepts: refusals 5 to 9.
+//!
+//! Each function says whether the plan allowed its fault.
+
+use crate::draft::{Arc, Draft};
+use crate::layout::{MOST_CHANNELS, MOST_NODES};
+use crate::random::Random;
+use std::ops::Range;
+
+/// Makes the fault of this refusal, if it is one of these.
+pub fn make(refusal: u32, draft: &mut Draft, random: &mut Random) -> bool {
+    match refusal {
+        5 => wrong_sizes(draft, random),
+        6 => strange_entry_or_exit(draft, random),
+        7 => strange_end(draft, random),
+        8 => leave_exit(draft, random),
+        9 => strange_channel(draft, random),
+        _ => false,
+    }
+}
+
+/// The nodes of each job, by the sizes.
+fn spans(draft: &Draft) -> Vec<Range<u32>> {
+    let ends = draft.jobs.iter().scan(0, |start, job| {
+        *start += job.size;
+        Some(*start - job.size..*start)
+    });
+    ends.collect()
+}
+
+/// A node number that a job does not have, often one just beside its nodes.
+fn outside(span: &Range<u32>, random: &mut Random) -> Option<u32> {
+    let all: Vec<u32> = (0..MOST_NODES)
+        .filter(|node| !span.contains(node))
+        .collect();
+    let beside = |node: &&u32| **node + 1 == span.start || **node == span.end;
+    let near: Vec<u32> = all.iter().filter(beside).copied().collect();
+    let chosen = if near.is_empty() || random.one_in(2) {
+        all
+    } else {
+        near
+    };
+    (!chosen.is_empty()).then(|| random.pick(&chosen))
+}
+
+/// A size 0, or sizes of another sum: also one that is right in 9 bits only.
+fn wrong_sizes(draft: &mut Draft, random: &mut Random) -> bool {
+    let job = random.index(draft.jobs.len());
+    let next = (job + 1) % draft.jobs.len();
+    let size = draft.jobs[job].size;
+    match random.below(5) {
+        0 => draft.jobs[job].size = 0,
+        1 if next != job => {
+            draft.jobs[next].size += size;
+            draft.jobs[job].size = 0;
+        }
+        2 if next != job && size < 256 && draft.jobs[next].size < 256 => {
+            draft.jobs[job].size += 256;
+            draft.jobs[next].size += 256;
+        }
+        3 if draft.nodes > 1 => draft.nodes -= 1,
+        4 if draft.nodes < MOST_NODES => draft.nodes += 1,
+        _ => draft.jobs[job].size = size ^ random.within(1..=511),
+    }
+    true
+}
+
+fn strange_entry_or_exit(draft: &mut Draft, random: &mut Random) -> bool {
+    let index = random.index(draft.jobs.len());
+    let Some(strange) = outside(&spans(draft)[index], random) else {
+        return false;
+    };
+    let job = &mut draft.jobs[index];
+    let end = if random.one_in(2) {
+        &mut job.entry
+    } else {
+        &mut job.exit
+    };
+    *end = strange;
+    true
+}
+
+/// Any local step, call or accept; a new step if there is none.
+fn any_arc<'a>(draft: &'a mut Draft, random: &mut Random) -> &'a mut Arc {
+    if draft.steps.is_empty() && draft.calls.is_empty() && draft.accepts.is_empty() {
+        draft.steps.push(Arc {
+            from: 0,
+            to: 0,
+            label: 0,
+        });
+    }
+    let mut lists = [&mut draft.steps, &mut draft.calls, &mut draft.accepts];
+    random.shuffle(&mut lists);
+    let list = lists.into_iter().find(|list| !list.is_empty());
+    random.pick_mut(list.expect("one of the three lists has an arc"))
+}
+
+fn strange_end(draft: &mut Draft, random: &mut Random) -> bool {
+    let (spans, nodes) = (spans(draft), draft.nodes);
+    let arc = any_arc(draft, random);
+    if nodes < MOST_NODES && random.one_in(4) {
+        arc.from = random.within(nodes..=MOST_NODES - 1);
+        arc.to = arc.from;
+        return true;
+    }
+    let span = spans.into_iter().find(|span| span.contains(&arc.from));
+    let Some(strange) = span.and_then(|span| outside(&span, random)) else {
+        return false;
+    };
+    let end = if random.one_in(2) {
+        &mut arc.from
+    } else {
+        &mut arc.to
+    };
+    *end = strange;
+    true
+}
+
+fn leave_exit(draft: &mut Draft, random: &mut Random) -> bool {
+    let (spans, jobs) = (spans(draft), draft.jobs.clone());
+    let arc = any_arc(draft, random);
+    let job = spans.iter().position(|span| span.contains(&arc.from));
+    let Some(exit) = job.map(|job| jobs[job].exit) else {
+        return false;
+    };
+    arc.from = exit;
+    if random.one_in(3) {
+        arc.to = exit;
+    }
+    true
+}
+
+/// A call or accept of a channel that is not there, or is taken away.
+fn strange_channel(draft: &mut Draft, random: &mut Random) -> bool {
+    let channels = draft.channels.len() as u32;
+    let mut lists = [&mut draft.calls, &mut draft.accepts];
+    random.shuffle(&mut lists);
+    let Some(list) = lists.into_iter().find(|list| !list.is_empty()) else {
+        return false;
+    };
+    let arc = random.pick_mut(list);
+    if channels < MOST_CHANNELS && random.one_in(2) {
+        arc.label = random.within(channels..=MOST_CHANNELS - 1);
+    } else {
+        draft.channels.truncate(arc.label as usize);
+    }
+    true
+}

@@ -1,0 +1,14 @@
+//! The differential test of the two implementations of the verifier.
+
+pub mod case;
+pub mod compare;
+pub mod coverage;
+pub mod draft;
+mod fault_in_bytes;
+mod fault_in_items;
+mod fault_in_jobs;
+mod layout;
+mod pattern;
+pub mod random;
+pub mod runs;
+mod sound;

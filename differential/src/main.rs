@@ -1,0 +1,76 @@
+//! Compares the two implementations of the verifier on generated plans.
+
+use differential::coverage::Coverage;
+use differential::{case, compare, runs};
+use std::process::ExitCode;
+use std::time::Instant;
+
+const USAGE: &str = "usage: differential [--count N] [--seed S] [--start I]";
+
+/// A run of so many plans or more must meet all that is asked for.
+const FULL_LENGTH: u64 = 20_000;
+
+/// What the command line asks for.
+struct Options {
+    count: u64,
+    seed: u64,
+    /// The number of the first plan.
+    start: u64,
+}
+
+fn options(mut words: impl Iterator<Item = String>) -> Option<Options> {
+    let mut options = Options {
+        count: FULL_LENGTH,
+        seed: 1,
+        start: 0,
+    };
+    while let Some(word) = words.next() {
+        let value = match word.as_str() {
+            "--count" => &mut options.count,
+            "--seed" => &mut options.seed,
+            "--start" => &mut options.start,
+            _ => return None,
+        };
+        *value = words.next()?.parse().ok()?;
+    }
+    Some(options)
+}
+
+/// Compares all plans of the run and tells what they met.
+fn compare_all(options: &Options) -> Result<Coverage, String> {
+    let mut coverage = Coverage::default();
+    for number in (options.start..).take(options.count as usize) {
+        let case = case::make(options.seed, number);
+        let answer = compare::compare(&case)
+            .map_err(|report| format!("plan {number} of seed {}: {report}", options.seed))?;
+        coverage.add(&case.plan, &answer);
+    }
+    Ok(coverage)
+}
+
+fn run(options: &Options) -> Result<(), String> {
+    let begun = Instant::now();
+    let coverage = compare_all(options)?;
+    print!("{coverage}");
+    println!("{:<28}{:>8.1}", "seconds", begun.elapsed().as_secs_f64());
+    let missing = coverage.missing();
+    if options.count >= FULL_LENGTH && !missing.is_empty() {
+        return Err(format!("never met: {}", missing.join("; ")));
+    }
+    println!("{}", runs::check_all(options.seed)?);
+    Ok(())
+}
+
+fn main() -> ExitCode {
+    let Some(options) = options(std::env::args().skip(1)) else {
+        eprintln!("{USAGE}");
+        return ExitCode::from(2);
+    };
+    match run(&options) {
+        Ok(()) => ExitCode::SUCCESS,
+        Err(report) => {
+            println!("{report}");
+            ExitCode::FAILURE
+        }
+    }
+}

@@ -1,0 +1,106 @@
+//! A second reading of the rules for job plans and their verdicts: the trace
+//! flow verifier in plain Rust, by a worklist of moves.
+//!
+//! It is compared, plan by plan, with the proved implementation.
+
+#![forbid(unsafe_code)]
+
+mod bits;
+mod flow;
+mod pattern;
+mod plan;
+
+use std::ops::Range;
+
+pub use pattern::Automaton;
+pub use plan::{Item, Job, Kind, Link, Plan, Step};
+
+use flow::Graph;
+
+/// The counts that come with a verdict, and the final set, in which state s
+/// has weight 2^s.
+#[derive(Clone, Copy, Debug, PartialEq, Eq)]
+pub struct Counts {
+    pub states: u32,
+    pub meetings: u32,
+    pub ordering: u32,
+    pub pairs: u32,
+    pub fill: u32,
+    pub final_set: u64,
+}
+
+/// The answer to a plan. A refusal carries its number.
+#[derive(Clone, Copy, Debug, PartialEq, Eq)]
+pub enum Answer {
+    Refused(u32),
+    Verified(Counts),
+    Inconclusive(Counts),
+}
+
+/// Judges a plan. On a verdict the first places of the row, one a node, hold
+/// the sets of states; on a refusal the row stays unchanged.
+pub fn judge(plan: &[u8], row: &mut [u64]) -> Answer {
+    let (plan, automaton) = match accept(plan) {
+        Ok(accepted) => accepted,
+        Err(number) => return Answer::Refused(number),
+    };
+    // Refusal 17: the row has fewer places than there are nodes.
+    let Some(places) = row.get_mut(..plan.nodes) else {
+        return Answer::Refused(17);
+    };
+    let graph = Graph::of(&plan);
+    let sets = graph.sets(&automaton);
+    let counts = count(&plan, &automaton, &graph, &sets);
+    places.copy_from_slice(&sets);
+    if verified(plan.kind, &automaton, counts.final_set) {
+        Answer::Verified(counts)
+    } else {
+        Answer::Inconclusive(counts)
+    }
+}
+
+/// The place of the pattern's bytes in the plan, `0..0` where one of the
+/// refusals 1 to 16 applies.
+pub fn pattern_part(plan: &[u8]) -> Range<usize> {
+    match accept(plan) {
+        Ok((accepted, _)) => accepted.pattern..plan.len(),
+        Err(_) => 0..0,
+    }
+}
+
+/// The plan and its automaton, or the first of the refusals 1 to 16.
+fn accept(bytes: &[u8]) -> Result<(Plan, Automaton), u32> {
+    let plan = Plan::read(bytes)?;
+    let automaton = Automaton::of(&plan)?;
+    Ok((plan, automaton))
+}
+
+fn count(plan: &Plan, automaton: &Automaton, graph: &Graph, sets: &[u64]) -> Counts {
+    let states = automaton.states() as u32;
+    // The pairs are the members of all sets, counted together.
+    let pairs = sets.iter().map(|set| set.count_ones()).sum();
+    // The final set is the intersection of the sets at all exits.
+    let exits = plan.jobs.iter().map(|job| sets[job.exit]);
+    Counts {
+        states,
+        meetings: graph.meetings() as u32,
+        ordering: graph.ordering() as u32,
+        pairs,
+        fill: percent(pairs, plan.nodes as u32 * states),
+        final_set: exits.fold(u64::MAX, |common, set| common & set),
+    }
+}
+
+/// 100 × part / whole, rounded to a whole number, a half upwards.
+fn percent(part: u32, whole: u32) -> u32 {
+    (200 * part + whole) / (2 * whole)
+}
+
+/// Kind every: every state of the final set accepts. Kind none: none does.
+/// An empty final set is verified.
+fn verified(kind: Kind, automaton: &Automaton, final_set: u64) -> bool {
+    match kind {
+        Kind::Every => final_set & !automaton.accepting() == 0,
+        Kind::None => final_set & automaton.accepting() == 0,
+    }
+}
