@@ -8,24 +8,23 @@ use native.Mathlib.Nat.{le-refl, eq-or-lt-of-le}
 use native.Mathlib.Numerals.{add-one}
 use native.Mathlib.Omega.{arith}
 use lib.Bits.{bitOr}
-use lib.ListN.{length, getD, set}
-use Rattle.rows.specs.Rows.{row, place}
-use Rattle.rows.proofs.Rows.{row-more}
+use lib.ListN.{length, set}
+use Rattle.rows.specs.Rows.{row}
+use Rattle.rows.proofs.Rows.{row-more, row-ext}
 use Rattle.regex.specs.Expression.{Expression}
 use Rattle.regex.specs.Items.{push, operands, newest, patternOf}
 use Rattle.regex.specs.Positions.{size, first, after, final}
 use Rattle.regex.proofs.Operands.{push-none, push-more, push-length, free-push, Counted, counted-none, counted-push, counted-free}
 use Rattle.regex.proofs.Stack.{holdings-one}
 use Rattle.regex.specs.Stack.{free, Operand as Masks, operandAt, follows, holdings}
-use Rattle.items.specs.Refusals.{itemOf}
 use Rattle.items.specs.Tables.{itemOn, itemsOn}
 use Rattle.items.specs.Postfix.{Postfix}
 use Rattle.items.specs.declared.Items.{Items}
-use Rattle.positions.specs.declared.Draft.{Draft}
 use Rattle.positions.specs.declared.Positions.{Positions}
-use Rattle.positions.specs.Drafts.{nothing, operandOf, TableOf}
-use Rattle.positions.proofs.Arrays.{listed-top, row-stays}
-use Rattle.positions.proofs.Items.{draft-depth}
+use Rattle.positions.specs.Tables.{positionTable}
+use Rattle.positions.specs.Making.{operandOf}
+use Rattle.positions.proofs.Arrays.{listed-top}
+use Rattle.positions.proofs.Items.{Draft, DraftOf, operand, draft-depth}
 
 -- ---- one operand is left
 
@@ -38,16 +37,24 @@ ended : (e : Expression) (m : Masks) → m ≡ operandAt 1 e → bitOr (m .last)
 unfolding final
 ended e m h = ap (λ (k : Masks). bitOr (k .last) (cond (k .null) 1 0)) h
 
-pub table-made : (d : Draft) (r : Positions) (m : Masks) → m ≡ operandOf (getD (d .stack .operands) 0 nothing)
-    → r .count ≡ d .count → r .after ≡ set (d .after) 0 (m .first) → r .holding ≡ d .holding → r .last ≡ bitOr (m .last) (cond (m .null) 1 0) → TableOf d r
-table-made d r m w count links holding last e b =
-    let whole = w ∙ listed-top (d .stack .operands) (d .stack .depth) 0 (operandAt 1 e) [] (draft-depth (e ∷ []) d b) (b .stack) .0 in
+-- the table that the code makes of the operand left; v is the beginning where the pattern holds the empty string
+abbrev tableOf : Draft → ℕ → Positions
+tableOf d v = record {
+  count = d .count;
+  after = set (d .after) 0 (operand d 0 .first);
+  holding = d .holding;
+  last = bitOr (operand d 0 .last) v;
+}
+
+pub table-made : (d : Draft) (e : Expression) (v : ℕ) → v ≡ cond (operand d 0 .null) 1 0 → DraftOf (e ∷ []) d → tableOf d v ≡ positionTable e
+table-made d e v q b =
+    let whole = listed-top (d .operands) (d .depth) 0 (operandAt 1 e) [] (draft-depth (e ∷ []) d b) (b .stack) .0 in
     let n : free (e ∷ []) ≡ suc (size e) = omega arith in
     λ i. record {
-      count = (count ∙ b .count ∙ n) i;
-      after = (links ∙ ap₂ (λ xs v. set xs 0 v) (b .after) (ap (λ (k : Masks). k .first) whole) ∙ begun e) i;
-      holding = row-stays 33 (r .holding) (holdings (e ∷ [])) _ (holding ∙ b .holding) (λ p. sym (holdings-one e p)) i;
-      last = (last ∙ ended e m whole) i;
+      count = (b .count ∙ n) i;
+      after = (ap₂ (λ xs f. set xs 0 f) (b .after) (ap (λ (k : Masks). k .first) whole) ∙ begun e) i;
+      holding = (b .holding ∙ row-ext (holdings (e ∷ [])) _ 33 (λ p l. holdings-one e p)) i;
+      last = (ap (bitOr (operand d 0 .last)) q ∙ ended e (operandOf (operand d 0)) whole) i;
     }
 
 pub sole : (st : List Expression) → length st ≡ 1 → st ≡ newest st ∷ []
@@ -93,14 +100,8 @@ module _ (t : Items) where
       (eq-or-lt-of-le h)
 
   -- 64 items have at most 32 positions
-  free-few : (i : ℕ) → Postfix t → i ≤ t .count → free (behind i) ≤ 33
+  pub free-few : (i : ℕ) → Postfix t → i ≤ t .count → free (behind i) ≤ 33
   free-few i p h = omega (arith, p .few, p .one, free-grows i (t .count) h, counted-free (t .count) (behind (t .count)) (behind-counted (t .count) p (omega arith)))
-
-  -- so a new one has a place
-  pub free-room : (i : ℕ) → Postfix t → i < t .count → place (t .kind) i ≡ 1 → free (behind i) < 33
-  free-room i p h k =
-      let more = ap free (behind-more i ∙ ap (λ (n : ℕ). push (itemOf n (place (t .set) i)) (behind i)) k) in
-      omega (arith, free-few (i + 1) p (omega arith))
 
   pub pattern-few : Postfix t → size (patternOf (itemsOn t)) ≤ 32
   pattern-few p = omega (arith, free-few (t .count) p (omega arith), ap free (sole (behind (t .count)) (p .one)))

@@ -1,3 +1,3 @@
--- The table of the positions of a pattern, and what the code has built of it behind some of the items.
+-- The table of the positions of a pattern, and what the code makes of one item.
 pub mod Tables
-pub mod Drafts
+pub mod Making
