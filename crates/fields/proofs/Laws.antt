@@ -2,12 +2,13 @@
 use mathlib.Core.Path.{_≡_, refl, sym, ap, _∙_}
 use mathlib.Core.List.{List, [], _∷_, _++_}
 use Prim.Native.Nat.{ℕ, zero, suc, _+_, _-_, _*_, _/_, _%_, _^_, _≤_, _<_}
-use native.Mathlib.Nat.{not-suc-le-zero, pow-suc}
+use native.Mathlib.Nat.{not-suc-le-zero, add-zero, add-suc, add-assoc, mul-assoc, pow-suc}
 use native.Mathlib.Numerals.{add-one}
 use native.Mathlib.Omega.{arith}
-use lib.ListN.{length, getD, drop, length-take, length-drop}
+use lib.ListN.{length, getD, take, drop, length-take, length-drop}
+use lib.Pow.{high, low}
 use lib.Seq.{take-suc, getD-drop}
-use Rattle.fields.specs.Bits.{bitsOf, bitsAt, valueFrom, fieldAt, eventsFrom, eventsAt}
+use Rattle.fields.specs.Bits.{bitsOfByte, bitsOf, bitsAt, valueFrom, fieldAt, eventsFrom, eventsAt}
 
 -- ---- bits
 
@@ -65,6 +66,57 @@ field-lt bs at (suc w) h =
     let more = ap (fieldAt bs at) (sym (add-one w)) ∙ field-more bs at w (omega arith) in
     let p = pow-suc 2 w in
     omega (arith, field-lt bs at w (omega arith), bit-lt bs (at + w) (omega arith))
+
+-- a field is its first bits, then the others
+pub field-split : (bs : List ℕ) (at m n : ℕ) → at + m + n ≤ 8 * length bs → fieldAt bs at (m + n) ≡ fieldAt bs at m * 2 ^ n + fieldAt bs (at + m) n
+field-split bs at m zero h = omega (arith, ap (fieldAt bs at) (add-zero m), field-none bs (at + m))
+field-split bs at m (suc n) h =
+    let more = ap (fieldAt bs at) (add-suc m n ∙ sym (add-one (m + n))) ∙ field-more bs at (m + n) (omega arith) in
+    let others = ap (fieldAt bs (at + m)) (sym (add-one n)) ∙ field-more bs (at + m) n (omega arith) in
+    let same = ap (λ (p : ℕ). getD (bitsOf bs) p 0) (add-assoc at m n) in
+    let twice : fieldAt bs at m * 2 ^ suc n ≡ fieldAt bs at m * 2 ^ n * 2 = rw (pow-suc) (sym (mul-assoc (fieldAt bs at m) (2 ^ n) 2)) in
+    omega (arith, field-split bs at m n (omega arith))
+
+-- a field out of one that starts m bits before it and ends r bits after it
+pub field-within : (bs : List ℕ) (at m w r : ℕ) → at + (m + w) + r ≤ 8 * length bs → fieldAt bs at (m + w + r) / 2 ^ r % 2 ^ w ≡ fieldAt bs (at + m) w
+field-within bs at m w r h =
+    let front = field-split bs at (m + w) r h in
+    let top = high (fieldAt bs at (m + w)) r (field-lt bs (at + (m + w)) r h) in
+    let back = field-split bs at m w (omega arith) in
+    let end = low (fieldAt bs at m) w (field-lt bs (at + m) w (omega arith)) in
+    ap (λ (n : ℕ). n / 2 ^ r % 2 ^ w) front ∙ ap (λ (n : ℕ). n % 2 ^ w) (top ∙ back) ∙ end
+
+-- ---- whole bytes
+
+byte-value : (b : ℕ) (rest : List ℕ) → b < 256 → valueFrom 0 (take 8 (bitsOfByte b ++ rest)) ≡ b
+unfolding valueFrom
+byte-value b rest h =
+    let b7 : 0 * 2 + b / 128 % 2 ≡ b / 128 = omega arith in
+    let b6 : b / 128 * 2 + b / 64 % 2 ≡ b / 64 = omega arith in
+    let b5 : b / 64 * 2 + b / 32 % 2 ≡ b / 32 = omega arith in
+    let b4 : b / 32 * 2 + b / 16 % 2 ≡ b / 16 = omega arith in
+    let b3 : b / 16 * 2 + b / 8 % 2 ≡ b / 8 = omega arith in
+    let b2 : b / 8 * 2 + b / 4 % 2 ≡ b / 4 = omega arith in
+    let b1 : b / 4 * 2 + b / 2 % 2 ≡ b / 2 = omega arith in
+    rw (b7, b6, b5, b4, b3, b2, b1) (omega arith)
+
+byte-field : (bs : List ℕ) (j : ℕ) → j < length bs → getD bs j 0 < 256 → fieldAt bs (8 * j) 8 ≡ getD bs j 0
+unfolding fieldAt bitsOf
+byte-field [] j h l = absurd (not-suc-le-zero h)
+byte-field (b ∷ bs) zero h l = byte-value b (bitsOf bs) l
+byte-field (b ∷ bs) (suc j) h l =
+    let e : 8 * suc j ≡ suc (suc (suc (suc (suc (suc (suc (suc (8 * j)))))))) = omega arith in
+    rw e (byte-field bs j (omega arith) l)
+
+-- the field of i + 1 bytes from the byte f on
+pub bytes-more : (bs : List ℕ) (f i : ℕ) → f + i < length bs → getD bs (f + i) 0 < 256
+    → fieldAt bs (8 * f) (8 * (i + 1)) ≡ fieldAt bs (8 * f) (8 * i) * 256 + getD bs (f + i) 0
+bytes-more bs f i h l =
+    let e : 8 * (i + 1) ≡ 8 * i + 8 = omega arith in
+    let s : 8 * f + 8 * i ≡ 8 * (f + i) = omega arith in
+    let more = field-split bs (8 * f) (8 * i) 8 (omega arith) in
+    let last = ap (λ (p : ℕ). fieldAt bs p 8) s ∙ byte-field bs (f + i) h l in
+    ap (fieldAt bs (8 * f)) e ∙ more ∙ ap (λ (n : ℕ). fieldAt bs (8 * f) (8 * i) * 256 + n) last
 
 -- ---- sets of events
 

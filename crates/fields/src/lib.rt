@@ -14,18 +14,20 @@ fn bit(plan: &[u8], p: usize) -> usize
     ((b >> s) % 2) as usize
 }
 
-// The unsigned field of `width` bits from place `at` on.
+// The unsigned field of `width` bits from place `at` on, out of the number that the bytes write which hold it.
 pub fn field(plan: &[u8], at: usize, width: usize) -> usize
     requires { ⌜ (width ≤ 31) × (at ≤ 65536) × (at + width ≤ 8 * length (now plan)) ⌝ }
     ensures { λ r. ⌜ r ≡ fieldAt (now (plan .entry)) at width ⌝ }
 {
+    let skip = at % 8;
+    let count = (skip + width + 7) / 8;
     let mut acc: usize = 0;
     let mut i: usize = 0;
-    while i < width {
-        acc = acc * 2 + bit(plan, at + i);
+    while i < count {
+        acc = acc * 256 + plan[at / 8 + i] as usize;
         i += 1;
     }
-    acc
+    (acc >> (8 * count - skip - width)) % (1 << width)
 }
 
 // The set of events whose 31 bits stand from place `at` on; event e has weight 2 ^ e.
