@@ -5,9 +5,10 @@ use Prim.Native.Nat.{ℕ, zero, suc, _+_, _-_, _*_, _/_, _%_, _^_, _≤_, _<_}
 use native.Mathlib.Nat.{not-suc-le-zero, add-zero, add-suc, add-assoc, mul-assoc, pow-suc}
 use native.Mathlib.Numerals.{add-one}
 use native.Mathlib.Omega.{arith}
-use lib.ListN.{length, getD, take, drop, length-take, length-drop}
+use lib.ListN.{length, getD, take, drop, length-drop}
 use lib.Pow.{high, low}
-use lib.Seq.{take-suc, getD-drop}
+use lib.Seq.{take-suc, drop-cons, getD-drop}
+use Rattle.fields.proofs.EventSets.{events-shift, bits-of}
 use Rattle.fields.specs.Bits.{bitsOfByte, bitsOf, bitsAt, valueFrom, fieldAt, eventsFrom, eventsAt}
 
 -- ---- bits
@@ -16,27 +17,6 @@ pub bits-length : (bs : List ℕ) → length (bitsOf bs) ≡ 8 * length bs
 unfolding bitsOf
 bits-length [] = refl
 bits-length (b ∷ bs) = let ih = bits-length bs in omega arith
-
--- the bit at place p is a digit of the byte that holds it
-pub bit-digit : (bs : List ℕ) (p : ℕ) → p < 8 * length bs → getD (bitsOf bs) p 0 ≡ getD bs (p / 8) 0 / 2 ^ (7 - p % 8) % 2
-unfolding bitsOf
-bit-digit [] p h = absurd (not-suc-le-zero h)
-bit-digit (b ∷ bs) zero h = refl
-bit-digit (b ∷ bs) (suc zero) h = refl
-bit-digit (b ∷ bs) (suc (suc zero)) h = refl
-bit-digit (b ∷ bs) (suc (suc (suc zero))) h = refl
-bit-digit (b ∷ bs) (suc (suc (suc (suc zero)))) h = refl
-bit-digit (b ∷ bs) (suc (suc (suc (suc (suc zero))))) h = refl
-bit-digit (b ∷ bs) (suc (suc (suc (suc (suc (suc zero)))))) h = refl
-bit-digit (b ∷ bs) (suc (suc (suc (suc (suc (suc (suc zero))))))) h = refl
-bit-digit (b ∷ bs) (suc (suc (suc (suc (suc (suc (suc (suc q)))))))) h =
-    let ih = bit-digit bs q (omega arith) in
-    let d : suc (suc (suc (suc (suc (suc (suc (suc q))))))) / 8 ≡ suc (q / 8) = omega arith in
-    let m : suc (suc (suc (suc (suc (suc (suc (suc q))))))) % 8 ≡ q % 8 = omega arith in
-    rw (d, m) ih
-
-pub bit-lt : (bs : List ℕ) (p : ℕ) → p < 8 * length bs → getD (bitsOf bs) p 0 < 2
-bit-lt bs p h = rw (bit-digit bs p h) (omega arith)
 
 -- one bit more
 pub bits-more : (bs : List ℕ) (at i : ℕ) → at + i < 8 * length bs → bitsAt bs at (i + 1) ≡ bitsAt bs at i ++ (getD (bitsOf bs) (at + i) 0 ∷ [])
@@ -65,7 +45,7 @@ field-lt bs at zero h = omega (arith, field-none bs at)
 field-lt bs at (suc w) h =
     let more = ap (fieldAt bs at) (sym (add-one w)) ∙ field-more bs at w (omega arith) in
     let p = pow-suc 2 w in
-    omega (arith, field-lt bs at w (omega arith), bit-lt bs (at + w) (omega arith))
+    omega (arith, field-lt bs at w (omega arith), bits-of bs (at + w))
 
 -- a field is its first bits, then the others
 pub field-split : (bs : List ℕ) (at m n : ℕ) → at + m + n ≤ 8 * length bs → fieldAt bs at (m + n) ≡ fieldAt bs at m * 2 ^ n + fieldAt bs (at + m) n
@@ -120,38 +100,30 @@ bytes-more bs f i h l =
 
 -- ---- sets of events
 
-pub bits-at-length : (bs : List ℕ) (at w : ℕ) → at + w ≤ 8 * length bs → length (bitsAt bs at w) ≡ w
-bits-at-length bs at w h = simp (length-take, length-drop, bits-length) (omega arith)
-
-events-snoc : (e : ℕ) (xs : List ℕ) (b : ℕ) → eventsFrom e (xs ++ (b ∷ [])) ≡ eventsFrom e xs + b * 2 ^ (e + length xs)
-unfolding eventsFrom
-events-snoc e [] b = let z : e ≡ e + length {A = ℕ} [] = omega arith in rw (← z) (omega arith)
-events-snoc e (x ∷ xs) b = let s : suc e + length xs ≡ e + suc (length xs) = omega arith in rw (events-snoc (suc e) xs b, s) (omega arith)
-
--- the set that the first i bits give
+-- the set of the i bits from the place `at` on, of which the first is event 0
 unfoldable pub eventsIn : List ℕ → ℕ → ℕ → ℕ
-eventsIn bs at i = eventsFrom 1 (bitsAt bs at i)
+eventsIn bs at i = eventsFrom 0 (bitsAt bs at i)
 
 pub events-none : (bs : List ℕ) (at : ℕ) → eventsIn bs at 0 ≡ 0
 unfolding eventsIn eventsFrom
 events-none bs at = refl
 
-pub events-more : (bs : List ℕ) (at i : ℕ) → at + i < 8 * length bs → eventsIn bs at (i + 1) ≡ eventsIn bs at i + getD (bitsOf bs) (at + i) 0 * 2 ^ (i + 1)
-unfolding eventsIn
+-- one bit before them
+pub events-more : (bs : List ℕ) (at i : ℕ) → at < 8 * length bs → eventsIn bs at (i + 1) ≡ eventsIn bs (at + 1) i * 2 + getD (bitsOf bs) at 0
+unfolding eventsIn eventsFrom
 events-more bs at i h =
-    let l = bits-at-length bs at i (omega arith) in
-    let s : 1 + length (bitsAt bs at i) ≡ i + 1 = omega arith in
-    rw (bits-more bs at i h, events-snoc, s)
+    let l : at < length (bitsOf bs) = rw bits-length h in
+    let later = events-shift 0 (bitsAt bs (suc at) i) in
+    rw (add-one i, add-one at, drop-cons (bitsOf bs) at 0 l) (omega arith)
 
--- a one takes its event in, a zero does not
-pub events-hit : (bs : List ℕ) (at i : ℕ) → at + i < 8 * length bs → getD (bitsOf bs) (at + i) 0 ≡ 1 → eventsIn bs at (i + 1) ≡ eventsIn bs at i + 2 ^ i * 2
-events-hit bs at i h e = rw (events-more bs at i h, e, add-one, pow-suc) (omega arith)
+-- the last bit of a field, and the field without it
+pub field-last : (bs : List ℕ) (at i : ℕ) → at + i < 8 * length bs → fieldAt bs at (i + 1) % 2 ≡ getD (bitsOf bs) (at + i) 0
+field-last bs at i h = omega (arith, field-more bs at i h, bits-of bs (at + i))
 
-pub events-miss : (bs : List ℕ) (at i : ℕ) → at + i < 8 * length bs → (getD (bitsOf bs) (at + i) 0 ≡ 1 → ⊥) → eventsIn bs at (i + 1) ≡ eventsIn bs at i
-events-miss bs at i h n =
-    let z : getD (bitsOf bs) (at + i) 0 ≡ 0 = omega (arith, bit-lt bs (at + i) h) in
-    rw (events-more bs at i h, z) (omega arith)
+pub field-others : (bs : List ℕ) (at i : ℕ) → at + i < 8 * length bs → fieldAt bs at (i + 1) / 2 ≡ fieldAt bs at i
+field-others bs at i h = omega (arith, field-more bs at i h, bits-of bs (at + i))
 
-pub events-all : (bs : List ℕ) (at : ℕ) → eventsIn bs at 31 ≡ eventsAt bs at
+-- "first bit event 1"
+pub events-all : (bs : List ℕ) (at : ℕ) → eventsAt bs at ≡ eventsIn bs at 31 * 2
 unfolding eventsIn eventsAt
-events-all bs at = refl
+events-all bs at = omega (arith, events-shift 0 (bitsAt bs at 31))

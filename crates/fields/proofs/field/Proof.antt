@@ -2,8 +2,8 @@
 -- Assumes nothing.
 use mathlib.Core.Path.{_≡_, sym, ap, _∙_}
 use Prim.Native.Nat.{ℕ, _+_, _-_, _*_, _/_, _%_, _^_, _≤_, _<_}
+use native.Mathlib.Nat.{le-antisymm}
 use native.Mathlib.Omega.{arith}
-use lib.ListN.{length}
 use lib.Pow.{pow-pos, pow-mono}
 use Rattle.fields.specs.Bits.{fieldAt}
 use Rattle.fields.proofs.Laws.{field-none, field-lt, field-within, bytes-more}
@@ -85,11 +85,12 @@ rem-result c = rw (power (c .before .before .args .width) (omega arith)) (pow-po
 returns : tie.Need-returns Inv-loop μ-loop
 returns c =
     let args = c .before .before .args in
-    let first = 8 * (args .at / 8) in
+    let skip = args .at % 8 in
     let rest = 8 * ((args .at % 8 + args .width + 7) / 8) - args .at % 8 - args .width in
-    let bits : 8 * c .before .loop .i ≡ args .at % 8 + args .width + rest = omega arith in
-    let start : first + args .at % 8 ≡ args .at = omega arith in
-    rw (power (args .width) (omega arith), c .before .loop .inv .1, bits, field-within (args .plan .now) first (args .at % 8) (args .width) rest (omega arith), start)
+    let all : c .before .loop .i ≡ (args .at % 8 + args .width + 7) / 8 = le-antisymm (c .before .loop .inv .0) (c .loop-test .left) in
+    let bits : 8 * c .before .loop .i ≡ skip + args .width + rest = ap (λ (n : ℕ). 8 * n) all ∙ omega arith in
+    let start : 8 * (args .at / 8) + skip ≡ args .at = omega arith in
+    rw (power (args .width) (omega arith), c .before .loop .inv .1, bits, field-within (args .plan .now) (8 * (args .at / 8)) skip (args .width) rest (omega arith), start)
 
 pub field-spec : {M : Type 1} → statement M
 field-spec =
