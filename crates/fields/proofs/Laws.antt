@@ -6,7 +6,7 @@ use native.Mathlib.Nat.{not-suc-le-zero, add-zero, add-suc, add-assoc, mul-assoc
 use native.Mathlib.Numerals.{add-one}
 use native.Mathlib.Omega.{arith}
 use lib.ListN.{length, getD, take, drop, length-drop}
-use lib.Pow.{high, low}
+use lib.Pow.{pow-mono, high, low}
 use lib.Seq.{take-suc, drop-cons, getD-drop}
 use Rattle.fields.proofs.EventSets.{events-shift, bits-of}
 use Rattle.fields.specs.Bits.{bitsOfByte, bitsOf, bitsAt, valueFrom, fieldAt, eventsFrom, eventsAt}
@@ -57,14 +57,20 @@ field-split bs at m (suc n) h =
     let twice : fieldAt bs at m * 2 ^ suc n ≡ fieldAt bs at m * 2 ^ n * 2 = rw (pow-suc) (sym (mul-assoc (fieldAt bs at m) (2 ^ n) 2)) in
     omega (arith, field-split bs at m n (omega arith))
 
+-- a field without its last n bits, and these
+pub field-front : (bs : List ℕ) (at m n : ℕ) → at + m + n ≤ 8 * length bs → fieldAt bs at (m + n) / 2 ^ n ≡ fieldAt bs at m
+field-front bs at m n h = rw (field-split bs at m n h) (high (fieldAt bs at m) n (field-lt bs (at + m) n h))
+
+pub field-back : (bs : List ℕ) (at m n : ℕ) → at + m + n ≤ 8 * length bs → fieldAt bs at (m + n) % 2 ^ n ≡ fieldAt bs (at + m) n
+field-back bs at m n h = rw (field-split bs at m n h) (low (fieldAt bs at m) n (field-lt bs (at + m) n h))
+
 -- a field out of one that starts m bits before it and ends r bits after it
 pub field-within : (bs : List ℕ) (at m w r : ℕ) → at + (m + w) + r ≤ 8 * length bs → fieldAt bs at (m + w + r) / 2 ^ r % 2 ^ w ≡ fieldAt bs (at + m) w
-field-within bs at m w r h =
-    let front = field-split bs at (m + w) r h in
-    let top = high (fieldAt bs at (m + w)) r (field-lt bs (at + (m + w)) r h) in
-    let back = field-split bs at m w (omega arith) in
-    let end = low (fieldAt bs at m) w (field-lt bs (at + m) w (omega arith)) in
-    ap (λ (n : ℕ). n / 2 ^ r % 2 ^ w) front ∙ ap (λ (n : ℕ). n % 2 ^ w) (top ∙ back) ∙ end
+field-within bs at m w r h = rw (field-front bs at (m + w) r h) (field-back bs at m w (omega arith))
+
+-- a one that is shifted
+pub shifted : (w : ℕ) → w ≤ 31 → 1 * 2 ^ w % 2 ^ 64 ≡ 2 ^ w
+shifted w h = omega (arith, pow-mono {i = w} {j = 31} h)
 
 -- ---- whole bytes
 

@@ -6,7 +6,7 @@ use native.Mathlib.Nat.{le-antisymm}
 use native.Mathlib.Omega.{arith}
 use lib.Pow.{pow-pos, pow-mono}
 use Rattle.fields.specs.Bits.{fieldAt}
-use Rattle.fields.proofs.Laws.{field-none, field-lt, field-within, bytes-more}
+use Rattle.fields.proofs.Laws.{field-none, field-lt, field-within, shifted, bytes-more}
 use Rattle.fields.proofs.field.Statement.{statement}
 use Rattle.fields.proofs.field.Tie as tie
 
@@ -60,10 +60,6 @@ loop-again c =
     let more = bytes-more (args .plan .now) (args .at / 8) (loop .i) (omega arith) (omega (arith, c .shared-slice-known .given at)) in
     (omega arith, omega (arith, loop .inv .1, more))
 
--- the shifted one is the power
-power : (w : ℕ) → w ≤ 31 → 1 * 2 ^ w % 2 ^ 64 ≡ 2 ^ w
-power w h = omega (arith, pow-mono {i = w} {j = 31} h)
-
 mul-result : tie.Need-mul-result Inv-loop μ-loop
 mul-result c = omega arith
 
@@ -80,7 +76,7 @@ shl-result : tie.Need-shl-result Inv-loop μ-loop
 shl-result c = omega arith
 
 rem-result : tie.Need-rem-result Inv-loop μ-loop
-rem-result c = rw (power (c .before .before .args .width) (omega arith)) (pow-pos (c .before .before .args .width))
+rem-result c = rw (shifted (c .before .before .args .width) (omega arith)) (pow-pos (c .before .before .args .width))
 
 returns : tie.Need-returns Inv-loop μ-loop
 returns c =
@@ -90,7 +86,7 @@ returns c =
     let all : c .before .loop .i ≡ (args .at % 8 + args .width + 7) / 8 = le-antisymm (c .before .loop .inv .0) (c .loop-test .left) in
     let bits : 8 * c .before .loop .i ≡ skip + args .width + rest = ap (λ (n : ℕ). 8 * n) all ∙ omega arith in
     let start : 8 * (args .at / 8) + skip ≡ args .at = omega arith in
-    rw (power (args .width) (omega arith), c .before .loop .inv .1, bits, field-within (args .plan .now) (8 * (args .at / 8)) skip (args .width) rest (omega arith), start)
+    rw (shifted (args .width) (omega arith), c .before .loop .inv .1, bits, field-within (args .plan .now) (8 * (args .at / 8)) skip (args .width) rest (omega arith), start)
 
 pub field-spec : {M : Type 1} → statement M
 field-spec =
