@@ -7,14 +7,14 @@ ghost use mathlib.Core.Path.{_≡_};
 ghost use mathlib.Core.Option.{none};
 ghost use mathlib.Core.List.{_++_};
 ghost use Prim.Native.Nat.{_+_, _≤_, _<_};
-ghost use lib.ListN.{take, replicate};
+ghost use lib.ListN.{length, take, replicate};
 ghost use Rattle.rows.specs.Rows.{padded, place};
 ghost use Rattle.sections.specs.Tables.{sizes, jobsIn, arcsIn, planIn};
 ghost use Rattle.plan.specs.Checks.{first, anyNumbered};
 ghost use Rattle.plan.specs.Nodes.{owners, total};
 ghost use Rattle.plan.specs.Bounds.{OwnersBelow, faultsOf, Tabled};
 ghost use Rattle.plan.specs.Refusals.{outside, countsOutside, sizesWrong, stray, framing, ends, shape};
-ghost use Rattle.plan.specs.Reading.{outcomeOf, ownerTable, refused, answered, readingOf};
+ghost use Rattle.plan.specs.Reading.{outcomeOf, refused, answered, readingOf};
 ghost use Rattle.sections.specs.Layout.{planOf};
 
 // What checks answer: no refusal, or the number of the first that applies.
@@ -98,45 +98,34 @@ fn sizes_wrong(nodes: usize, jobs: Jobs) -> bool
     empty | (sum != nodes)
 }
 
-// The jobs of the first `nodes` nodes.
-struct Owners {
-    job: [u8; 256],
-    nodes: usize,
-}
-
-// With `size` nodes more, of the job `job`.
-fn own(o: Owners, size: usize, job: u8) -> Owners
-    requires { ⌜ (o .nodes + size ≤ 256) × (o ≡ ownerTable (take (o .nodes) (o .job))) ⌝ }
-    ensures { λ r. ⌜ r ≡ ownerTable (take (o .nodes) (o .job) ++ replicate size job) ⌝ }
+// `size` nodes from the node `at` on are of the job `job`.
+fn own(owner: &mut [u8; 256], at: usize, size: usize, job: u8)
+    requires { ⌜ (at + size ≤ 256) × (now owner ≡ padded 256 (take at (now owner))) × (length (take at (now owner)) ≡ at) ⌝ }
+    ensures { λ r. ⌜ now (owner .exit) ≡ padded 256 (take at (now (owner .entry)) ++ replicate size job) ⌝ }
 {
-    let at = o.nodes;
-    let mut g = o;
     let mut k: usize = 0;
     while k < size {
-        g.job[at + k] = job;
+        owner[at + k] = job;
         k += 1;
     }
-    g.nodes = at + size;
-    g
 }
 
 // The job of each node.
-fn owners_of(jobs: Jobs) -> Owners
+fn owners_of(jobs: Jobs) -> [u8; 256]
     requires { ⌜ (jobs .count ≤ 16) × (total (sizes (jobsIn jobs)) ≤ 256) ⌝ }
-    ensures { λ r. ⌜ r ≡ ownerTable (owners (jobsIn jobs)) ⌝ }
+    ensures { λ r. ⌜ r ≡ padded 256 (owners (jobsIn jobs)) ⌝ }
 {
     let count = jobs.count;
-    let mut o = Owners {
-        job: [0; 256],
-        nodes: 0,
-    };
+    let mut owner = [0u8; 256];
+    let mut at: usize = 0;
     let mut i: usize = 0;
     while i < count {
         let size = wide(jobs.size[i]);
-        o = own(o, size, i as u8);
+        own(&mut owner, at, size, i as u8);
+        at += size;
         i += 1;
     }
-    o
+    owner
 }
 
 // What the tests of entries, exits and arcs go by.
@@ -264,8 +253,7 @@ fn read_sections(plan: &[u8]) -> Reading
     if sizes_wrong(d.nodes, jobs) {
         return turned_down(5);
     }
-    let o = owners_of(jobs);
-    let owner = o.job;
+    let owner = owners_of(jobs);
     let found = bounded(d, owner);
     match found {
         Outcome::Refused(n) => turned_down(n),
