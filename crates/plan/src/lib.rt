@@ -128,28 +128,26 @@ fn owners_of(jobs: Jobs) -> [u8; 256]
     owner
 }
 
-// What the tests of entries, exits and arcs go by.
+// What the tests of arcs go by, beside the job of each node.
 struct Bounds {
     nodes: usize,
-    owner: [u8; 256],
     exit: [u8; 16],
     channels: usize,
 }
 
 // Refusal 6.
-fn any_stray(g: Bounds, jobs: Jobs) -> bool
+fn any_stray(nodes: usize, owner: &[u8; 256], jobs: Jobs) -> bool
     requires { ⌜ jobs .count ≤ 16 ⌝ }
-    ensures { λ r. ⌜ r ≡ anyNumbered (stray (g .nodes) (place (g .owner))) (jobsIn jobs) ⌝ }
+    ensures { λ r. ⌜ r ≡ anyNumbered (stray nodes (place (now (owner .entry)))) (jobsIn jobs) ⌝ }
 {
     let count = jobs.count;
-    let nodes = g.nodes;
     let mut found = false;
     let mut i: usize = 0;
     while i < count {
         let entry = sections::byte(jobs.entry[i]);
         let exit = sections::byte(jobs.exit[i]);
-        let entry_job = sections::byte(g.owner[entry]);
-        let exit_job = sections::byte(g.owner[exit]);
+        let entry_job = sections::byte(owner[entry]);
+        let exit_job = sections::byte(owner[exit]);
         found = found
             | !(((entry < nodes) & (entry_job == i)) & ((exit < nodes) & (exit_job == i)));
         i += 1;
@@ -165,9 +163,9 @@ struct Faults {
 }
 
 // One pass over a section.
-fn find_faults(g: Bounds, arcs: Arcs) -> Faults
-    requires { ⌜ (arcs .count ≤ 256) × OwnersBelow 16 (g .owner) ⌝ }
-    ensures { λ r. ⌜ r ≡ faultsOf g (arcsIn arcs) ⌝ }
+fn find_faults(g: Bounds, owner: &[u8; 256], arcs: Arcs) -> Faults
+    requires { ⌜ (arcs .count ≤ 256) × OwnersBelow 16 (now owner) ⌝ }
+    ensures { λ r. ⌜ r ≡ faultsOf g (now (owner .entry)) (arcsIn arcs) ⌝ }
 {
     let count = arcs.count;
     let nodes = g.nodes;
@@ -180,8 +178,8 @@ fn find_faults(g: Bounds, arcs: Arcs) -> Faults
         let from = sections::byte(arcs.from[i]);
         let to = sections::byte(arcs.to[i]);
         let label = sections::byte(arcs.label[i]);
-        let job = sections::byte(g.owner[from]);
-        let other = sections::byte(g.owner[to]);
+        let job = sections::byte(owner[from]);
+        let other = sections::byte(owner[to]);
         let exit = sections::byte(g.exit[job]);
         apart = apart | !((from < nodes) & ((to < nodes) & (job == other)));
         leaving = leaving | (from == exit);
@@ -196,28 +194,27 @@ fn find_faults(g: Bounds, arcs: Arcs) -> Faults
 }
 
 // Refusals 6 to 9.
-fn bounded(d: Decoded, owner: [u8; 256]) -> Outcome
-    requires { ⌜ Tabled d × (owner ≡ padded 256 (owners (planIn d .jobs))) ⌝ }
+fn bounded(d: Decoded, owner: &[u8; 256]) -> Outcome
+    requires { ⌜ Tabled d × (now owner ≡ padded 256 (owners (planIn d .jobs))) ⌝ }
     ensures { λ r. ⌜ r ≡ outcomeOf (first ends (planIn d)) ⌝ }
 {
     let jobs = d.jobs;
+    if any_stray(d.nodes, owner, jobs) {
+        return Outcome::Refused(6);
+    }
     let exit = jobs.exit;
     let channels = d.channels;
     let g = Bounds {
         nodes: d.nodes,
-        owner: owner,
         exit: exit,
         channels: channels.count,
     };
-    if any_stray(g, jobs) {
-        return Outcome::Refused(6);
-    }
     let steps = d.steps;
     let calls = d.calls;
     let accepts = d.accepts;
-    let s = find_faults(g, steps);
-    let c = find_faults(g, calls);
-    let a = find_faults(g, accepts);
+    let s = find_faults(g, owner, steps);
+    let c = find_faults(g, owner, calls);
+    let a = find_faults(g, owner, accepts);
     if s.apart | (c.apart | a.apart) {
         return Outcome::Refused(7);
     }
@@ -254,7 +251,7 @@ fn read_sections(plan: &[u8]) -> Reading
         return turned_down(5);
     }
     let owner = owners_of(jobs);
-    let found = bounded(d, owner);
+    let found = bounded(d, &owner);
     match found {
         Outcome::Refused(n) => turned_down(n),
         Outcome::Accepted => Reading {

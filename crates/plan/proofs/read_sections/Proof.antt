@@ -31,7 +31,7 @@ abbrev tables : tie.After-decode → Decoded
 tables r = r .decode .result
 
 abbrev decoded : tie.After-bounded → tie.After-decode
-decoded f = f .before .before .before .before .before
+decoded f = f .before .before .before .before .before .before
 
 -- the counts that were read are within their ranges
 counts : (c : tie.After-read-head) → Ranged (c .read-head .result)
@@ -58,7 +58,7 @@ wrong c = c .sizes-wrong .ensures ∙ ap wrongSizes (said (c .before .before))
 -- refusals 6 to 9 go by theirs
 bound : (f : tie.After-bounded) → outcomeOf (first shape (planOf (bytes (decoded f)))) ≡ f .bounded .result
 bound f =
-    let right = told (wrong (f .before .before .before)) (f .before .before .if1 .left) in
+    let right = told (wrong (f .before .before .before .before)) (f .before .before .before .if1 .left) in
     ap outcomeOf (shape-past (planOf (bytes (decoded f))) right) ∙ sym (f .bounded .ensures ∙ ap (λ (p : Plan). outcomeOf (first ends p)) (said (decoded f)))
 
 whole : (b : List ℕ) (plan : Decoded) (owner : List ℕ) (pattern : ℕ) → plan ≡ decodedOf (planOf b) → owner ≡ padded 256 (owners (planOf b .jobs))
@@ -92,7 +92,7 @@ owners-of-requires c κs =
     (held r .jobs, omega (arith, right, nodes-read (bytes r) (passed r) (tables r) (read r)))
 
 bounded-requires : tie.Need-bounded-requires
-bounded-requires c κs = (held (c .before .before .before .before), c .owners-of .ensures)
+bounded-requires c κs = (held (c .before .before .before .before .before), c .before .owners-of .ensures)
 
 enum-known-found : tie.Need-enum-known-found
 enum-known-found c = search needs
@@ -108,8 +108,8 @@ end-of-requires c κs =
     let r = counts (decoded (c .before .before) .before) in
     (r .jobs, r .steps, r .channels, r .calls, r .accepts)
 
-add-t12 : tie.Need-add-t12
-add-t12 c = omega (arith, c .end-of .ensures, counts (decoded (c .before .before .before) .before))
+add-t15 : tie.Need-add-t15
+add-t15 c = omega (arith, c .end-of .ensures, counts (decoded (c .before .before .before) .before))
 
 returns-2 : tie.Need-returns-2
 returns-2 c =
@@ -123,7 +123,7 @@ returns-3 c =
     let f = c .before .before .before in
     let r = decoded f in
     let none-applies = outcome-accepted (first shape (planOf (bytes r))) (bound f ∙ c .before .enum-told .given .1) in
-    let owner = f .before .owners-of .ensures ∙ ap (λ (p : Plan). padded 256 (owners (p .jobs))) (said r) in
+    let owner = f .before .before .owners-of .ensures ∙ ap (λ (p : Plan). padded 256 (owners (p .jobs))) (said r) in
     let pattern = ap (λ (n : ℕ). (n + 7) / 8) (c .end-of .ensures ∙ ap endAt (r .before .read-head .ensures)) in
     whole (bytes r) _ _ _ (read r) owner pattern ∙ sym (ap (λ (o : Option ℕ). answered o (bytes r)) none-applies)
 
@@ -142,6 +142,6 @@ read-sections-spec =
     turned-down-requires-2
     enum-told
     end-of-requires
-    add-t12
+    add-t15
     returns-2
     returns-3)
