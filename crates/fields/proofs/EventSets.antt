@@ -11,11 +11,11 @@ use Rattle.masks.proofs.Members.{digit-zero, digit-suc, digit-none}
 use Rattle.fields.specs.Bits.{bitsOf, bitsOfByte, bitsAt, eventsFrom, eventsAt}
 
 -- each is a bit
-abbrev Bits : List ℕ → Type 0
+abbrev pub Bits : List ℕ → Type 0
 Bits xs = (i : ℕ) → getD xs i 0 < 2
 
 -- one event later is twice the weight
-events-shift : (e : ℕ) (xs : List ℕ) → eventsFrom (suc e) xs ≡ 2 * eventsFrom e xs
+pub events-shift : (e : ℕ) (xs : List ℕ) → eventsFrom (suc e) xs ≡ 2 * eventsFrom e xs
 unfolding eventsFrom
 events-shift e [] = refl
 events-shift e (x ∷ xs) =
@@ -50,7 +50,7 @@ byte-bits b rest h (suc (suc (suc (suc (suc (suc zero)))))) = omega arith
 byte-bits b rest h (suc (suc (suc (suc (suc (suc (suc zero))))))) = omega arith
 byte-bits b rest h (suc (suc (suc (suc (suc (suc (suc (suc i)))))))) = h i
 
-bits-of : (bs : List ℕ) → Bits (bitsOf bs)
+pub bits-of : (bs : List ℕ) → Bits (bitsOf bs)
 unfolding bitsOf
 bits-of [] i = omega arith
 bits-of (b ∷ bs) i = byte-bits b (bitsOf bs) (bits-of bs) i

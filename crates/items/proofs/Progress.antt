@@ -1,8 +1,9 @@
 -- From the first items to one more: what the code keeps of them. Assumes nothing.
-use mathlib.Core.Path.{_≡_, refl, sym, ap, _∙_}
+use mathlib.Core.Path.{_≡_, refl, sym, ap, ap₂, subst, _∙_}
 use mathlib.Core.List.{List, [], _∷_, _++_, map}
 use mathlib.Core.Option.{Option, none, some, Option·none-ne-some}
 use Prim.Native.Nat.{ℕ, zero, suc, _+_, _-_, _*_, _≤_, _<_}
+use native.Mathlib.Nat.{add-zero}
 use native.Mathlib.Numerals.{add-one}
 use native.Mathlib.Omega.{arith}
 use lib.ListN.{length, set, length-append}
@@ -15,11 +16,24 @@ use Rattle.plan.specs.Reading.{outcomeOf}
 use Rattle.plan.proofs.Ends.{outcome-refused, outcome-accepted}
 use Rattle.regex.specs.Items.{Item, arity, operands, push}
 use Rattle.regex.proofs.Operands.{push-none, push-more, push-length}
-use Rattle.items.specs.Refusals.{Spot, Read, faulty, upTo, kindAt, itemAt, width, faults, depth, pointOf, past, judged, oneMore, read}
-use Rattle.items.specs.Tables.{kindOf, setOf, foundAs, added, scanOf}
-use Rattle.items.proofs.Faults.{arity-kind, kind-item, width-item, faultless}
+use Rattle.items.specs.declared.Found.{Found}
+use Rattle.items.specs.declared.Scan.{Scan}
+use Rattle.items.specs.Refusals.{Spot, Read, faulty, upTo, kindAt, itemOf, itemAt, width, faults, depth, pointOf, past, judged, oneMore, read}
+use Rattle.items.specs.Tables.{kindOf, setOf, foundAs, found, scanOf}
+use Rattle.items.proofs.Faults.{arity-kind, kind-at-most, kind-item, width-item, faultless}
 
--- ---- what the code keeps, read back
+-- ---- what the code keeps
+
+-- the first i items, none of them refused, in a row of kinds and a row of sets
+abbrev pub scanAt : ℕ → ℕ → ℕ → List ℕ → List ℕ → Scan
+scanAt at depth i kind set = record { outcome = Accepted; at = at; depth = depth; items = record { kind = kind; set = set; count = i } }
+
+-- with one item more
+abbrev pub added : Scan → Found → Scan
+added s f =
+    scanAt (s .at + width (f .kind)) (s .depth + 1 - arity (itemOf (f .kind) 0)) (s .items .count + 1) (set (s .items .kind) (s .items .count) (f .kind)) (set (s .items .set) (s .items .count) (f .set))
+
+-- ---- and read back
 
 pub scan-faulty : (x : Read) (n : ℕ) → scanOf x .outcome ≡ Refused n → x ≡ faulty n
 scan-faulty (faulty m) n e = cc
@@ -46,20 +60,24 @@ module _ (b : List ℕ) (alphabet : ℕ) where
 
   -- ---- the next item
 
-  pub faulty-more : (i n : ℕ) → read b alphabet i ≡ faulty n → read b alphabet (i + 1) ≡ faulty n
-  faulty-more i n e = read-more i ∙ ap (oneMore b alphabet) e
+  -- a refusal stays
+  pub faulty-later : (i k n : ℕ) → read b alphabet i ≡ faulty n → read b alphabet (i + k) ≡ faulty n
+  faulty-later i zero n e = rw (add-zero i) e
+  faulty-later i (suc k) n e =
+      let more : i + suc k ≡ i + k + 1 = omega arith in
+      ap (read b alphabet) more ∙ read-more (i + k) ∙ ap (oneMore b alphabet) (faulty-later i k n e)
 
   module _ (i : ℕ) (s : Spot) (e : read b alphabet i ≡ upTo s) where
-    pub refused-next : (n : ℕ) → first (faults b alphabet) (pointOf s) ≡ some n → read b alphabet (i + 1) ≡ faulty n
+    refused-next : (n : ℕ) → first (faults b alphabet) (pointOf s) ≡ some n → read b alphabet (i + 1) ≡ faulty n
     refused-next n h = read-more i ∙ ap (oneMore b alphabet) e ∙ ap (λ (o : Option ℕ). judged b alphabet o s) h
 
-    pub read-next : first (faults b alphabet) (pointOf s) ≡ none → read b alphabet (i + 1) ≡ upTo (past b alphabet s)
+    read-next : first (faults b alphabet) (pointOf s) ≡ none → read b alphabet (i + 1) ≡ upTo (past b alphabet s)
     read-next h = read-more i ∙ ap (oneMore b alphabet) e ∙ ap (λ (o : Option ℕ). judged b alphabet o s) h
 
   -- ---- an item without fault
 
   module _ (s : Spot) (fine : first (faults b alphabet) (pointOf s) ≡ none) where
-    pub kind-at : kindOf (itemAt b (s .at)) ≡ kindAt b (s .at)
+    kind-at : kindOf (itemAt b (s .at)) ≡ kindAt b (s .at)
     unfolding itemAt
     kind-at = kind-item _ _ (faultless b alphabet (s .at) (depth s) fine .0)
 
@@ -67,7 +85,7 @@ module _ (b : List ℕ) (alphabet : ℕ) where
     enough = faultless b alphabet (s .at) (depth s) fine .1
 
     -- the operands that it leaves
-    pub depth-past : depth (past b alphabet s) ≡ depth s + 1 - arity (itemAt b (s .at))
+    depth-past : depth (past b alphabet s) ≡ depth s + 1 - arity (itemAt b (s .at))
     depth-past =
         let i = itemAt b (s .at) in
         let l : length (push i (operands (s .items))) + arity i ≡ depth s + 1 = push-length i (operands (s .items)) enough in
@@ -80,7 +98,7 @@ module _ (b : List ℕ) (alphabet : ℕ) where
           padded-push 64 (map g (s .items)) (length (s .items)) _ (length-map (s .items) g) few
           ∙ ap (padded 64) (sym (map-append g (s .items) (itemAt b (s .at) ∷ [])))
 
-      pub kept : added (scanOf (upTo s)) (foundAs none (itemAt b (s .at))) ≡ scanOf (upTo (past b alphabet s))
+      kept : added (scanOf (upTo s)) (foundAs none (itemAt b (s .at))) ≡ scanOf (upTo (past b alphabet s))
       kept = λ i. record {
         outcome = Accepted;
         at = s .at + width (kind-at i);
@@ -111,3 +129,45 @@ module _ (b : List ℕ) (alphabet : ℕ) where
   unfolding read
   read-bounds zero = (omega arith, refl, omega (arith, ap length push-none), omega arith)
   read-bounds (suc i) = bounds-more i (read b alphabet i) (read-bounds i)
+
+  -- ---- one turn of the code
+
+  module _ (i at depth : ℕ) (kind sets : List ℕ) (scanned : scanAt at depth i kind sets ≡ scanOf (read b alphabet i)) where
+    abbrev before : (s : Spot) × (read b alphabet i ≡ upTo s)
+    before = scan-up-to (read b alphabet i) (sym (ap (λ (t : Scan). t .outcome) scanned))
+
+    spotted : scanAt at depth i kind sets ≡ scanOf (upTo (before .0))
+    spotted = scanned ∙ ap scanOf (before .1)
+
+    pub near : (at ≤ 34 * i) × (depth ≤ i)
+    near =
+        let h : Bounds i (upTo (before .0)) = subst (λ (x : Read). Bounds i x) (before .1) (read-bounds i) in
+        (omega (arith, h .0, ap (λ (t : Scan). t .at) spotted), omega (arith, h .2, ap (λ (t : Scan). t .depth) spotted))
+
+    module _ (f : Found) (e : f ≡ found b alphabet (record { at = at; depth = depth })) where
+      next : f ≡ found b alphabet (pointOf (before .0))
+      next = e ∙ ap (λ (t : Scan). found b alphabet (record { at = t .at; depth = t .depth })) spotted
+
+      pub turn-refused : (n : ℕ) → f .outcome ≡ Refused n → read b alphabet (i + 1) ≡ faulty n
+      turn-refused n h =
+          refused-next i (before .0) (before .1) n (found-refused _ (itemAt b (before .0 .at)) n (sym (ap (λ (x : Found). x .outcome) next) ∙ h))
+
+      module _ (h : f .outcome ≡ Accepted) where
+        fine : first (faults b alphabet) (pointOf (before .0)) ≡ none
+        fine = found-accepted _ (itemAt b (before .0 .at)) (sym (ap (λ (x : Found). x .outcome) next) ∙ h)
+
+        accepted : f ≡ foundAs none (itemAt b (before .0 .at))
+        accepted = next ∙ ap (λ (o : Option ℕ). foundAs o (itemAt b (before .0 .at))) fine
+
+        -- the item has a kind, and finds its operands
+        pub turn-known : (f .kind ≤ 4) × (arity (itemOf (f .kind) 0) ≤ depth)
+        turn-known =
+            let item = itemAt b (before .0 .at) in
+            let k : f .kind ≡ kindOf item = ap (λ (x : Found). x .kind) accepted in
+            let taken : arity (itemOf (f .kind) 0) ≡ arity item = ap (λ (n : ℕ). arity (itemOf n 0)) k ∙ arity-kind item in
+            (omega (arith, kind-at-most item), omega (arith, enough (before .0) fine, ap (λ (t : Scan). t .depth) spotted))
+
+        pub turn-accepted : i < 64 → added (scanAt at depth i kind sets) f ≡ scanOf (read b alphabet (i + 1))
+        turn-accepted few =
+            let h : Bounds i (upTo (before .0)) = subst (λ (x : Read). Bounds i x) (before .1) (read-bounds i) in
+            ap₂ added spotted accepted ∙ kept (before .0) fine (omega (arith, h .1)) ∙ ap scanOf (sym (read-next i (before .0) (before .1) fine))

@@ -1,17 +1,17 @@
 -- How the code keeps items: a row of kinds, a row of sets, and how many they are. And what the reader answers.
 use mathlib.Core.List.{List, [], map}
 use mathlib.Core.Option.{Option, none, some}
-use Prim.Native.Nat.{ℕ, _+_, _-_}
-use lib.ListN.{length, set}
+use Prim.Native.Nat.{ℕ}
+use lib.ListN.{length}
 use Rattle.rows.specs.Rows.{row, padded, place}
 use Rattle.plan.specs.declared.Outcome.the-variants.{Accepted, Refused}
 use Rattle.plan.specs.Checks.{first}
-use Rattle.regex.specs.Items.{Item, empty, events, sequence, choice, repeat, arity}
+use Rattle.regex.specs.Items.{Item, empty, events, sequence, choice, repeat}
 use Rattle.items.specs.declared.Items.{Items}
 use Rattle.items.specs.declared.Found.{Found}
 use Rattle.items.specs.declared.Scan.{Scan}
 use Rattle.items.specs.declared.ItemsRead.{ItemsRead}
-use Rattle.items.specs.Refusals.{Point, Read, faulty, upTo, itemOf, itemAt, width, faults, depth, itemsIn, itemsRefusal}
+use Rattle.items.specs.Refusals.{Point, Read, faulty, upTo, itemOf, itemAt, faults, depth, itemsIn, itemsRefusal}
 
 abbrev pub kindOf : Item → ℕ
 kindOf empty = 0
@@ -51,15 +51,6 @@ foundAs (some n) i = record { outcome = Refused n; kind = 0; set = 0 }
 
 abbrev pub found : List ℕ → ℕ → Point → Found
 found b alphabet p = foundAs (first (faults b alphabet) p) (itemAt b (p .at))
-
--- what the code keeps with one item more
-abbrev pub added : Scan → Found → Scan
-added s f = record {
-  outcome = Accepted;
-  at = s .at + width (f .kind);
-  depth = s .depth + 1 - arity (itemOf (f .kind) 0);
-  items = record { kind = set (s .items .kind) (s .items .count) (f .kind); set = set (s .items .set) (s .items .count) (f .set); count = s .items .count + 1 };
-}
 
 -- how the code keeps the first items
 abbrev pub scanOf : Read → Scan

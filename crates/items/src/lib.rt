@@ -6,7 +6,7 @@ ghost use mathlib.Core.List.{[]};
 ghost use mathlib.Core.Option.{some};
 ghost use Rattle.regex.specs.Items.{empty, arity};
 ghost use Rattle.items.specs.Refusals.{faulty, cut, itemOf, width, strange, read};
-ghost use Rattle.items.specs.Tables.{itemTable, foundAs, found, added, scanOf, answered, itemsReadOf};
+ghost use Rattle.items.specs.Tables.{itemTable, foundAs, found, scanOf, answered, itemsReadOf};
 
 // Items by value: the kind and the set of each, 0 where the kind has no set.
 pub struct Items {
@@ -130,25 +130,6 @@ pub fn blank() -> Items
     }
 }
 
-// With one item more.
-fn with_item(s: Scan, f: Found) -> Scan
-    requires { ⌜ (s .items .count < 64) × (s .at ≤ 4096) × (f .kind ≤ 4) × (arity (itemOf (f .kind) 0) ≤ s .depth) × (s .depth ≤ 64) ⌝ }
-    ensures { λ r. ⌜ r ≡ added s f ⌝ }
-{
-    let kind = f.kind as usize;
-    let mut items = s.items;
-    let i = items.count;
-    items.kind[i] = f.kind;
-    items.set[i] = f.set;
-    items.count = i + 1;
-    Scan {
-        outcome: Outcome::Accepted,
-        at: s.at + width_of(kind),
-        depth: s.depth + 1 - arity_of(kind),
-        items: items,
-    }
-}
-
 // A refusal in place of the first items.
 fn stopped(n: u32) -> Scan
     ensures { λ r. ⌜ r ≡ scanOf (faulty n) ⌝ }
@@ -161,42 +142,35 @@ fn stopped(n: u32) -> Scan
     }
 }
 
-// From the first `i` items to one more, or to the refusal.
-fn one_more(rest: &[u8], alphabet: u32, i: usize, s: Scan) -> Scan
-    requires { ⌜ (i < 64) × (s ≡ scanOf (read (now rest) alphabet i)) ⌝ }
-    ensures { λ r. ⌜ r ≡ scanOf (read (now (rest .entry)) alphabet (i + 1)) ⌝ }
-{
-    let so_far = s.outcome;
-    match so_far {
-        Outcome::Refused(n) => stopped(n),
-        Outcome::Accepted => {
-            let f = item_at(rest, alphabet, s.at, s.depth);
-            let found = f.outcome;
-            match found {
-                Outcome::Refused(n) => stopped(n),
-                Outcome::Accepted => with_item(s, f),
-            }
-        }
-    }
-}
-
 // The first `count` items: refusals 10 to 13.
 fn scan_items(rest: &[u8], alphabet: u32, count: usize) -> Scan
     requires { ⌜ count ≤ 64 ⌝ }
     ensures { λ r. ⌜ r ≡ scanOf (read (now (rest .entry)) alphabet count) ⌝ }
 {
-    let mut s = Scan {
-        outcome: Outcome::Accepted,
-        at: 0,
-        depth: 0,
-        items: blank(),
-    };
+    let mut items = blank();
+    let mut at: usize = 0;
+    let mut depth: usize = 0;
     let mut i: usize = 0;
     while i < count {
-        s = one_more(rest, alphabet, i, s);
+        let f = item_at(rest, alphabet, at, depth);
+        let found = f.outcome;
+        if let Outcome::Refused(n) = found {
+            return stopped(n);
+        }
+        let kind = f.kind as usize;
+        items.kind[i] = f.kind;
+        items.set[i] = f.set;
+        at += width_of(kind);
+        depth = depth + 1 - arity_of(kind);
         i += 1;
     }
-    s
+    items.count = count;
+    Scan {
+        outcome: Outcome::Accepted,
+        at: at,
+        depth: depth,
+        items: items,
+    }
 }
 
 // A refusal: its number, and nothing else.

@@ -110,30 +110,30 @@ module _ (p : Plan) (test : Arc → Bool) (s c a : Bool) (es : s ≡ any test (p
   any-arcs : (s || (c || a)) ≡ any test (arcs p)
   any-arcs = any-joined test (p .steps) (links p) s (c || a) es any-links
 
-module _ (p : Plan) (g : Bounds) (e : g ≡ boundsOf p) where
-  job-on : place (g .owner) ≡ jobOf p
-  job-on = ap (λ (x : Bounds). place (x .owner)) e ∙ padded-places 256 (owners (p .jobs))
+module _ (p : Plan) (owner : List ℕ) (o : owner ≡ padded 256 (owners (p .jobs))) where
+  job-on : place owner ≡ jobOf p
+  job-on = ap place o ∙ padded-places 256 (owners (p .jobs))
 
-  exit-on : place (g .exit) ≡ exitOf p
-  exit-on = ap (λ (x : Bounds). place (x .exit)) e ∙ padded-places 16 (exits (p .jobs))
-
-  pub stray-on : anyNumbered (stray (g .nodes) (place (g .owner))) (p .jobs) ≡ strayEnds p
-  stray-on = λ i. anyNumbered (stray (e i .nodes) (job-on i)) (p .jobs)
+  pub stray-on : anyNumbered (stray (p .nodes) (place owner)) (p .jobs) ≡ strayEnds p
+  stray-on = λ i. anyNumbered (stray (p .nodes) (job-on i)) (p .jobs)
 
   -- each node's job is one of the jobs
-  pub owners-on : length (p .jobs) ≤ 16 → OwnersBelow 16 (g .owner)
+  pub owners-on : length (p .jobs) ≤ 16 → OwnersBelow 16 owner
   owners-on h i = subst (λ (f : ℕ → ℕ). f i < 16) (sym job-on) (owners-below (p .jobs) 16 (omega arith) h i)
 
   -- of the faults of the three sections
-  module _ (s c a : Faults) (es : s ≡ faultsOf g (p .steps)) (ec : c ≡ faultsOf g (p .calls)) (ea : a ≡ faultsOf g (p .accepts)) where
+  module _ (g : Bounds) (e : g ≡ boundsOf p) (s c a : Faults) (es : s ≡ faultsOf g owner (p .steps)) (ec : c ≡ faultsOf g owner (p .calls)) (ea : a ≡ faultsOf g owner (p .accepts)) where
+    exit-on : place (g .exit) ≡ exitOf p
+    exit-on = ap (λ (x : Bounds). place (x .exit)) e ∙ padded-places 16 (exits (p .jobs))
+
     pub apart-on : (s .apart || (c .apart || a .apart)) ≡ splitEnds p
     apart-on =
-        any-arcs p (apart (g .nodes) (place (g .owner))) (s .apart) (c .apart) (a .apart) (λ i. es i .apart) (λ i. ec i .apart) (λ i. ea i .apart)
+        any-arcs p (apart (g .nodes) (place owner)) (s .apart) (c .apart) (a .apart) (λ i. es i .apart) (λ i. ec i .apart) (λ i. ea i .apart)
         ∙ (λ i. any (apart (e i .nodes) (job-on i)) (arcs p))
 
     pub leaving-on : (s .leaving || (c .leaving || a .leaving)) ≡ exitLeft p
     leaving-on =
-        any-arcs p (leaving (place (g .owner)) (place (g .exit))) (s .leaving) (c .leaving) (a .leaving) (λ i. es i .leaving) (λ i. ec i .leaving) (λ i. ea i .leaving)
+        any-arcs p (leaving (place owner) (place (g .exit))) (s .leaving) (c .leaving) (a .leaving) (λ i. es i .leaving) (λ i. ec i .leaving) (λ i. ea i .leaving)
         ∙ (λ i. any (leaving (job-on i) (exit-on i)) (arcs p))
 
     pub unknown-on : (c .unknown || a .unknown) ≡ noChannel p
@@ -142,14 +142,14 @@ module _ (p : Plan) (g : Bounds) (e : g ≡ boundsOf p) where
         ∙ (λ i. any (unknown (e i .channels)) (links p))
 
 -- the arrays, from the tables
-abbrev pub boundsIn : Decoded → List ℕ → Bounds
-boundsIn d owner = record { nodes = d .nodes; owner = owner; exit = d .jobs .exit; channels = d .channels .count }
+abbrev pub boundsIn : Decoded → Bounds
+boundsIn d = record { nodes = d .nodes; exit = d .jobs .exit; channels = d .channels .count }
 
-pub bounds-kept : (d : Decoded) (owner : List ℕ) → Tabled d → owner ≡ padded 256 (owners (planIn d .jobs)) → boundsIn d owner ≡ boundsOf (planIn d)
-bounds-kept d owner t e =
+pub bounds-kept : (d : Decoded) → Tabled d → boundsIn d ≡ boundsOf (planIn d)
+bounds-kept d t =
     let exit = ap (λ (x : Decoded). x .jobs .exit) (t .kept) in
     let channels = ap (λ (x : Decoded). x .channels .count) (t .kept) in
-    λ i. record { nodes = d .nodes; owner = e i; exit = exit i; channels = channels i }
+    λ i. record { nodes = d .nodes; exit = exit i; channels = channels i }
 
 -- ---- the tables that were read
 

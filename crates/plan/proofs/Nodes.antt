@@ -7,14 +7,12 @@ use native.Mathlib.Nat.{le-refl, eq-or-lt-of-le}
 use native.Mathlib.Numerals.{add-one}
 use native.Mathlib.Omega.{arith}
 use lib.ListN.{length, take, set, replicate, length-append, length-replicate, replicate-append-replicate}
-use lib.Seq.{take-append-seam}
+use lib.Seq.{take-at}
 use Rattle.sections.specs.Plan.{Job}
 use Rattle.rows.specs.Rows.{row, padded, place}
 use Rattle.sections.specs.Tables.{sizes}
 use Rattle.rows.proofs.Rows.{row-length, row-more, map-append, padded-push}
-use Rattle.plan.specs.declared.Owners.{Owners}
 use Rattle.plan.specs.Nodes.{owners, ownersFrom, total}
-use Rattle.plan.specs.Reading.{ownerTable}
 
 -- ---- sums
 
@@ -98,10 +96,6 @@ own-more xs at k v e h =
     ∙ ap (padded 256) (append-assoc xs (replicate k v) (v ∷ []) ∙ ap (λ ys. xs ++ ys) (replicate-more k v))
 
 -- what stands before the nodes to come
-take-padded : (xs : List ℕ) → take (length xs) (padded 256 xs) ≡ xs
+pub take-padded : (xs : List ℕ) (at : ℕ) → length xs ≡ at → take at (padded 256 xs) ≡ xs
 unfolding padded
-take-padded xs = take-append-seam xs (replicate (256 - length xs) 0)
-
--- the list that a table of the nodes' jobs keeps
-pub owners-kept : (o : Owners) (xs : List ℕ) → o ≡ ownerTable xs → take (o .nodes) (o .job) ≡ xs
-owners-kept o xs e = ap (λ (t : Owners). take (t .nodes) (t .job)) e ∙ take-padded xs
+take-padded xs at e = take-at xs (replicate (256 - length xs) 0) at e

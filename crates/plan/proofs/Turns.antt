@@ -1,6 +1,7 @@
 -- One turn of the loops that test a section: the record i is tested, and then the first i + 1 are. Assumes nothing.
 use mathlib.Core.Path.{_≡_, sym, ap, _∙_}
 use mathlib.Core.Bool.{Bool, _&&_, _||_, not}
+use mathlib.Core.List.{List}
 use Prim.Native.Nat.{ℕ, _+_}
 use lib.Dec.{ltb, leb, eqb}
 use Rattle.sections.specs.declared.Jobs.{Jobs}
@@ -21,28 +22,29 @@ any-turn test g i found hit e h =
 
 -- ---- the tests, from what was read
 
-module _ (g : Bounds) where
-  pub stray-read : (jobs : Jobs) (i entry exit entry-job exit-job : ℕ) → entry ≡ place (jobs .entry) i → exit ≡ place (jobs .exit) i
-      → entry-job ≡ place (g .owner) entry → exit-job ≡ place (g .owner) exit
-      → not ((ltb entry (g .nodes) && eqb entry-job i) && (ltb exit (g .nodes) && eqb exit-job i)) ≡ stray (g .nodes) (place (g .owner)) i (jobIn jobs i)
-  stray-read jobs i entry exit entry-job exit-job p q r s =
-      let r' = r ∙ ap (place (g .owner)) p in
-      let s' = s ∙ ap (place (g .owner)) q in
-      λ k. not ((ltb (p k) (g .nodes) && eqb (r' k) i) && (ltb (q k) (g .nodes) && eqb (s' k) i))
+-- by the job of each node
+module _ (owner : List ℕ) where
+  pub stray-read : (nodes : ℕ) (jobs : Jobs) (i entry exit entry-job exit-job : ℕ) → entry ≡ place (jobs .entry) i → exit ≡ place (jobs .exit) i
+      → entry-job ≡ place owner entry → exit-job ≡ place owner exit
+      → not ((ltb entry nodes && eqb entry-job i) && (ltb exit nodes && eqb exit-job i)) ≡ stray nodes (place owner) i (jobIn jobs i)
+  stray-read nodes jobs i entry exit entry-job exit-job p q r s =
+      let r' = r ∙ ap (place owner) p in
+      let s' = s ∙ ap (place owner) q in
+      λ k. not ((ltb (p k) nodes && eqb (r' k) i) && (ltb (q k) nodes && eqb (s' k) i))
 
-  module _ (arcs : Arcs) (i from : ℕ) (p : from ≡ place (arcs .from) i) where
-    pub apart-read : (to job other : ℕ) → to ≡ place (arcs .to) i → job ≡ place (g .owner) from → other ≡ place (g .owner) to
-        → not (ltb from (g .nodes) && (ltb to (g .nodes) && eqb job other)) ≡ apart (g .nodes) (place (g .owner)) (arcIn arcs i)
+  module _ (g : Bounds) (arcs : Arcs) (i from : ℕ) (p : from ≡ place (arcs .from) i) where
+    pub apart-read : (to job other : ℕ) → to ≡ place (arcs .to) i → job ≡ place owner from → other ≡ place owner to
+        → not (ltb from (g .nodes) && (ltb to (g .nodes) && eqb job other)) ≡ apart (g .nodes) (place owner) (arcIn arcs i)
     apart-read to job other q r s =
-        let r' = r ∙ ap (place (g .owner)) p in
-        let s' = s ∙ ap (place (g .owner)) q in
+        let r' = r ∙ ap (place owner) p in
+        let s' = s ∙ ap (place owner) q in
         λ k. not (ltb (p k) (g .nodes) && (ltb (q k) (g .nodes) && eqb (r' k) (s' k)))
 
-    pub leaving-read : (job exit : ℕ) → job ≡ place (g .owner) from → exit ≡ place (g .exit) job
-        → eqb from exit ≡ leaving (place (g .owner)) (place (g .exit)) (arcIn arcs i)
+    pub leaving-read : (job exit : ℕ) → job ≡ place owner from → exit ≡ place (g .exit) job
+        → eqb from exit ≡ leaving (place owner) (place (g .exit)) (arcIn arcs i)
     leaving-read job exit r s =
-        let s' = s ∙ ap (place (g .exit)) (r ∙ ap (place (g .owner)) p) in
+        let s' = s ∙ ap (place (g .exit)) (r ∙ ap (place owner) p) in
         λ k. eqb (p k) (s' k)
 
-  pub unknown-read : (arcs : Arcs) (i label : ℕ) → label ≡ place (arcs .label) i → leb (g .channels) label ≡ unknown (g .channels) (arcIn arcs i)
-  unknown-read arcs i label p = ap (leb (g .channels)) p
+pub unknown-read : (g : Bounds) (arcs : Arcs) (i label : ℕ) → label ≡ place (arcs .label) i → leb (g .channels) label ≡ unknown (g .channels) (arcIn arcs i)
+unknown-read g arcs i label p = ap (leb (g .channels)) p

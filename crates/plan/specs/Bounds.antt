@@ -11,13 +11,11 @@ use Rattle.sections.specs.Tables.{exits, decodedOf, planIn}
 use Rattle.plan.specs.declared.Bounds.{Bounds}
 use Rattle.plan.specs.declared.Faults.{Faults}
 use Rattle.plan.specs.Checks.{any}
-use Rattle.plan.specs.Nodes.{owners}
 use Rattle.plan.specs.Refusals.{apart, leaving, unknown}
 
 abbrev pub boundsOf : Plan → Bounds
 boundsOf p = record {
   nodes = p .nodes;
-  owner = padded 256 (owners (p .jobs));
   exit = padded 16 (exits (p .jobs));
   channels = length (p .channels);
 }
@@ -27,10 +25,10 @@ abbrev pub OwnersBelow : ℕ → List ℕ → Type 0
 OwnersBelow n owner = (i : ℕ) → place owner i < n
 
 -- which faults the arcs of a section have
-abbrev pub faultsOf : Bounds → List Arc → Faults
-faultsOf g l = record {
-  apart = any (apart (g .nodes) (place (g .owner))) l;
-  leaving = any (leaving (place (g .owner)) (place (g .exit))) l;
+abbrev pub faultsOf : Bounds → List ℕ → List Arc → Faults
+faultsOf g owner l = record {
+  apart = any (apart (g .nodes) (place owner)) l;
+  leaving = any (leaving (place owner) (place (g .exit))) l;
   unknown = any (unknown (g .channels)) l;
 }
 

@@ -2,14 +2,12 @@
 use Prim.Native.Nat.{ℕ}
 use mathlib.Core.Option.{Option, none, some}
 use mathlib.Core.List.{List, []}
-use lib.ListN.{length}
 use Rattle.sections.specs.Plan.{nothing}
 use Rattle.sections.specs.Layout.{headOf, patternAt, planOf}
 use Rattle.rows.specs.Rows.{padded}
 use Rattle.sections.specs.Tables.{decodedOf}
 use Rattle.plan.specs.declared.Outcome.{Outcome}
 use Rattle.plan.specs.declared.Outcome.the-variants.{Accepted, Refused}
-use Rattle.plan.specs.declared.Owners.{Owners}
 use Rattle.plan.specs.declared.Reading.{Reading}
 use Rattle.plan.specs.Checks.{first}
 use Rattle.plan.specs.Nodes.{owners}
@@ -19,10 +17,6 @@ use Rattle.plan.specs.Refusals.{order}
 abbrev pub outcomeOf : Option ℕ → Outcome
 outcomeOf none = Accepted
 outcomeOf (some n) = Refused n
-
--- how the code keeps the jobs of the nodes
-abbrev pub ownerTable : List ℕ → Owners
-ownerTable l = record { job = padded 256 l; nodes = length l }
 
 -- an accepted plan, with the job of each node and the byte where its pattern starts
 abbrev pub accepted : List ℕ → Reading

@@ -7,14 +7,14 @@ ghost use mathlib.Core.Path.{_≡_};
 ghost use mathlib.Core.Option.{none};
 ghost use mathlib.Core.List.{_++_};
 ghost use Prim.Native.Nat.{_+_, _≤_, _<_};
-ghost use lib.ListN.{take, replicate};
+ghost use lib.ListN.{length, take, replicate};
 ghost use Rattle.rows.specs.Rows.{padded, place};
 ghost use Rattle.sections.specs.Tables.{sizes, jobsIn, arcsIn, planIn};
 ghost use Rattle.plan.specs.Checks.{first, anyNumbered};
 ghost use Rattle.plan.specs.Nodes.{owners, total};
 ghost use Rattle.plan.specs.Bounds.{OwnersBelow, faultsOf, Tabled};
 ghost use Rattle.plan.specs.Refusals.{outside, countsOutside, sizesWrong, stray, framing, ends, shape};
-ghost use Rattle.plan.specs.Reading.{outcomeOf, ownerTable, refused, answered, readingOf};
+ghost use Rattle.plan.specs.Reading.{outcomeOf, refused, answered, readingOf};
 ghost use Rattle.sections.specs.Layout.{planOf};
 
 // What checks answer: no refusal, or the number of the first that applies.
@@ -98,69 +98,56 @@ fn sizes_wrong(nodes: usize, jobs: Jobs) -> bool
     empty | (sum != nodes)
 }
 
-// The jobs of the first `nodes` nodes.
-struct Owners {
-    job: [u8; 256],
-    nodes: usize,
-}
-
-// With `size` nodes more, of the job `job`.
-fn own(o: Owners, size: usize, job: u8) -> Owners
-    requires { ⌜ (o .nodes + size ≤ 256) × (o ≡ ownerTable (take (o .nodes) (o .job))) ⌝ }
-    ensures { λ r. ⌜ r ≡ ownerTable (take (o .nodes) (o .job) ++ replicate size job) ⌝ }
+// `size` nodes from the node `at` on are of the job `job`.
+fn own(owner: &mut [u8; 256], at: usize, size: usize, job: u8)
+    requires { ⌜ (at + size ≤ 256) × (now owner ≡ padded 256 (take at (now owner))) × (length (take at (now owner)) ≡ at) ⌝ }
+    ensures { λ r. ⌜ now (owner .exit) ≡ padded 256 (take at (now (owner .entry)) ++ replicate size job) ⌝ }
 {
-    let at = o.nodes;
-    let mut g = o;
     let mut k: usize = 0;
     while k < size {
-        g.job[at + k] = job;
+        owner[at + k] = job;
         k += 1;
     }
-    g.nodes = at + size;
-    g
 }
 
 // The job of each node.
-fn owners_of(jobs: Jobs) -> Owners
+fn owners_of(jobs: Jobs) -> [u8; 256]
     requires { ⌜ (jobs .count ≤ 16) × (total (sizes (jobsIn jobs)) ≤ 256) ⌝ }
-    ensures { λ r. ⌜ r ≡ ownerTable (owners (jobsIn jobs)) ⌝ }
+    ensures { λ r. ⌜ r ≡ padded 256 (owners (jobsIn jobs)) ⌝ }
 {
     let count = jobs.count;
-    let mut o = Owners {
-        job: [0; 256],
-        nodes: 0,
-    };
+    let mut owner = [0u8; 256];
+    let mut at: usize = 0;
     let mut i: usize = 0;
     while i < count {
         let size = wide(jobs.size[i]);
-        o = own(o, size, i as u8);
+        own(&mut owner, at, size, i as u8);
+        at += size;
         i += 1;
     }
-    o
+    owner
 }
 
-// What the tests of entries, exits and arcs go by.
+// What the tests of arcs go by, beside the job of each node.
 struct Bounds {
     nodes: usize,
-    owner: [u8; 256],
     exit: [u8; 16],
     channels: usize,
 }
 
 // Refusal 6.
-fn any_stray(g: Bounds, jobs: Jobs) -> bool
+fn any_stray(nodes: usize, owner: &[u8; 256], jobs: Jobs) -> bool
     requires { ⌜ jobs .count ≤ 16 ⌝ }
-    ensures { λ r. ⌜ r ≡ anyNumbered (stray (g .nodes) (place (g .owner))) (jobsIn jobs) ⌝ }
+    ensures { λ r. ⌜ r ≡ anyNumbered (stray nodes (place (now (owner .entry)))) (jobsIn jobs) ⌝ }
 {
     let count = jobs.count;
-    let nodes = g.nodes;
     let mut found = false;
     let mut i: usize = 0;
     while i < count {
         let entry = sections::byte(jobs.entry[i]);
         let exit = sections::byte(jobs.exit[i]);
-        let entry_job = sections::byte(g.owner[entry]);
-        let exit_job = sections::byte(g.owner[exit]);
+        let entry_job = sections::byte(owner[entry]);
+        let exit_job = sections::byte(owner[exit]);
         found = found
             | !(((entry < nodes) & (entry_job == i)) & ((exit < nodes) & (exit_job == i)));
         i += 1;
@@ -176,9 +163,9 @@ struct Faults {
 }
 
 // One pass over a section.
-fn find_faults(g: Bounds, arcs: Arcs) -> Faults
-    requires { ⌜ (arcs .count ≤ 256) × OwnersBelow 16 (g .owner) ⌝ }
-    ensures { λ r. ⌜ r ≡ faultsOf g (arcsIn arcs) ⌝ }
+fn find_faults(g: Bounds, owner: &[u8; 256], arcs: Arcs) -> Faults
+    requires { ⌜ (arcs .count ≤ 256) × OwnersBelow 16 (now owner) ⌝ }
+    ensures { λ r. ⌜ r ≡ faultsOf g (now (owner .entry)) (arcsIn arcs) ⌝ }
 {
     let count = arcs.count;
     let nodes = g.nodes;
@@ -191,8 +178,8 @@ fn find_faults(g: Bounds, arcs: Arcs) -> Faults
         let from = sections::byte(arcs.from[i]);
         let to = sections::byte(arcs.to[i]);
         let label = sections::byte(arcs.label[i]);
-        let job = sections::byte(g.owner[from]);
-        let other = sections::byte(g.owner[to]);
+        let job = sections::byte(owner[from]);
+        let other = sections::byte(owner[to]);
         let exit = sections::byte(g.exit[job]);
         apart = apart | !((from < nodes) & ((to < nodes) & (job == other)));
         leaving = leaving | (from == exit);
@@ -207,28 +194,27 @@ fn find_faults(g: Bounds, arcs: Arcs) -> Faults
 }
 
 // Refusals 6 to 9.
-fn bounded(d: Decoded, owner: [u8; 256]) -> Outcome
-    requires { ⌜ Tabled d × (owner ≡ padded 256 (owners (planIn d .jobs))) ⌝ }
+fn bounded(d: Decoded, owner: &[u8; 256]) -> Outcome
+    requires { ⌜ Tabled d × (now owner ≡ padded 256 (owners (planIn d .jobs))) ⌝ }
     ensures { λ r. ⌜ r ≡ outcomeOf (first ends (planIn d)) ⌝ }
 {
     let jobs = d.jobs;
+    if any_stray(d.nodes, owner, jobs) {
+        return Outcome::Refused(6);
+    }
     let exit = jobs.exit;
     let channels = d.channels;
     let g = Bounds {
         nodes: d.nodes,
-        owner: owner,
         exit: exit,
         channels: channels.count,
     };
-    if any_stray(g, jobs) {
-        return Outcome::Refused(6);
-    }
     let steps = d.steps;
     let calls = d.calls;
     let accepts = d.accepts;
-    let s = find_faults(g, steps);
-    let c = find_faults(g, calls);
-    let a = find_faults(g, accepts);
+    let s = find_faults(g, owner, steps);
+    let c = find_faults(g, owner, calls);
+    let a = find_faults(g, owner, accepts);
     if s.apart | (c.apart | a.apart) {
         return Outcome::Refused(7);
     }
@@ -264,9 +250,8 @@ fn read_sections(plan: &[u8]) -> Reading
     if sizes_wrong(d.nodes, jobs) {
         return turned_down(5);
     }
-    let o = owners_of(jobs);
-    let owner = o.job;
-    let found = bounded(d, owner);
+    let owner = owners_of(jobs);
+    let found = bounded(d, &owner);
     match found {
         Outcome::Refused(n) => turned_down(n),
         Outcome::Accepted => Reading {

@@ -1,11 +1,13 @@
 -- Records of so many bits one after the other, and the tables of all of them. Assumes nothing.
-use mathlib.Core.Path.{_≡_}
+use mathlib.Core.Path.{_≡_, ap, ap₂, _∙_}
 use mathlib.Core.List.{List}
-use Prim.Native.Nat.{ℕ, _+_, _*_, _≤_, _<_}
+use Prim.Native.Nat.{ℕ, _+_, _*_, _/_, _%_, _^_, _≤_, _<_}
 use native.Mathlib.Nat.{mul-suc, mul-le-mul, mul-le-mul-left}
 use native.Mathlib.Omega.{arith}
-use Rattle.fields.specs.Bits.{eventsAt}
-use Rattle.sections.specs.Layout.{alphabetAt, jobsOf, arcsAt, stepsAt, channelsOf, callsAt, acceptsAt, planUnder}
+use lib.ListN.{length}
+use Rattle.fields.specs.Bits.{fieldAt, eventsAt}
+use Rattle.fields.proofs.Laws.{field-front, field-back, field-within, shifted}
+use Rattle.sections.specs.Layout.{alphabetAt, arcAt, jobsOf, arcsAt, stepsAt, channelsOf, callsAt, acceptsAt, planUnder}
 use Rattle.sections.specs.declared.Kind.{Kind}
 use Rattle.sections.specs.declared.Head.{Head}
 use Rattle.sections.specs.declared.Jobs.{Jobs}
@@ -22,6 +24,16 @@ use Rattle.sections.specs.Tables.{sizes, entries, exits, froms, tos, lab
 -- the record i of n ends within them, and starts at a place that fits
 pub stride : (k i n : ℕ) → i < n → k ≤ 24 → n ≤ 256 → (k * i + k ≤ k * n) × (k * i ≤ 6144)
 stride k i n h a b = (rw (← (mul-suc k i)) (mul-le-mul-left k h), mul-le-mul {n₁ = k} {m₁ = i} {n₂ = 24} {m₂ = 256} a (omega arith))
+
+-- the ends and the label of an arc, out of the field n of all its bits
+pub arc-parts : (b : List ℕ) (w at n : ℕ) → w ≤ 8 → at + (16 + w) ≤ 8 * length b → n ≡ fieldAt b at (16 + w)
+    → (n / 2 ^ (8 + w) ≡ arcAt b w at .from) × (n / 2 ^ w % 2 ^ 8 ≡ arcAt b w at .to) × (n % (1 * 2 ^ w % 2 ^ 64) ≡ arcAt b w at .label)
+arc-parts b w at n small h e =
+    let two : 16 + w ≡ 8 + (8 + w) = omega arith in (
+      ap (λ (x : ℕ). x / 2 ^ (8 + w)) (e ∙ ap (fieldAt b at) two) ∙ field-front b at 8 (8 + w) (omega arith),
+      ap (λ (x : ℕ). x / 2 ^ w % 2 ^ 8) e ∙ field-within b at 8 8 w (omega arith),
+      ap₂ (λ (x y : ℕ). x % y) e (shifted w (omega arith)) ∙ field-back b at 16 w (omega arith),
+    )
 
 -- ---- tables, where a loop has gone through all the records
 

@@ -123,28 +123,33 @@ fn read_jobs(plan: &[u8], at: usize, count: usize) -> Jobs
     }
 }
 
+fn no_arcs() -> Arcs
+    ensures { λ r. ⌜ r ≡ arcTable (nothing .steps) ⌝ }
+{
+    Arcs {
+        from: [0; 256],
+        to: [0; 256],
+        label: [0; 256],
+        count: 0,
+    }
+}
+
 // The arcs that stand from place `at` on, with labels of `width` bits.
 fn read_arcs(plan: &[u8], width: usize, at: usize, count: usize) -> Arcs
     requires { ⌜ (width ≤ 8) × (count ≤ 256) × (at ≤ 16384) × (at + (16 + width) * count ≤ 8 * length (now plan)) ⌝ }
     ensures { λ r. ⌜ r ≡ arcTable (arcsAt (now (plan .entry)) width at count) ⌝ }
 {
-    let mut from = [0u8; 256];
-    let mut to = [0u8; 256];
-    let mut label = [0u8; 256];
+    let mut arcs = no_arcs();
     let mut i: usize = 0;
     while i < count {
-        let b = at + (16 + width) * i;
-        from[i] = fields::field(plan, b, 8) as u8;
-        to[i] = fields::field(plan, b + 8, 8) as u8;
-        label[i] = fields::field(plan, b + 16, width) as u8;
+        let arc = fields::field(plan, at + (16 + width) * i, 16 + width);
+        arcs.from[i] = (arc >> (8 + width)) as u8;
+        arcs.to[i] = ((arc >> width) % 256) as u8;
+        arcs.label[i] = (arc % (1 << width)) as u8;
         i += 1;
     }
-    Arcs {
-        from: from,
-        to: to,
-        label: label,
-        count: count,
-    }
+    arcs.count = count;
+    arcs
 }
 
 // The channels' events that stand from place `at` on.
@@ -183,17 +188,6 @@ pub fn decode(plan: &[u8], h: Head) -> Decoded
         channels: read_channels(plan, channels_at, h.channels),
         calls: read_arcs(plan, 6, calls_at, h.calls),
         accepts: read_arcs(plan, 6, accepts_at, h.accepts),
-    }
-}
-
-fn no_arcs() -> Arcs
-    ensures { λ r. ⌜ r ≡ arcTable (nothing .steps) ⌝ }
-{
-    Arcs {
-        from: [0; 256],
-        to: [0; 256],
-        label: [0; 256],
-        count: 0,
     }
 }
 

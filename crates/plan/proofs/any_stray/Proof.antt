@@ -12,13 +12,13 @@ use Rattle.plan.proofs.any_stray.Statement.{statement}
 use Rattle.plan.proofs.any_stray.Tie as tie
 
 abbrev Inv-loop : tie.InvT-loop
-Inv-loop g jobs count nodes found₀ i₀ found i = (i ≤ count) × (found ≡ anyNumbered (stray (g .nodes) (place (g .owner))) (row i (jobIn jobs)))
+Inv-loop nodes owner jobs count found₀ i₀ found i = (i ≤ count) × (found ≡ anyNumbered (stray nodes (place owner)) (row i (jobIn jobs)))
 
 abbrev μ-loop : tie.MeasureT-loop
-μ-loop g jobs count nodes found₀ i₀ found i = count - i
+μ-loop nodes owner jobs count found₀ i₀ found i = count - i
 
 loop-holds : tie.Need-loop-holds Inv-loop μ-loop
-loop-holds c = (omega arith, sym (any-row-none (stray (c .args .t1 .nodes) (place (c .args .t1 .owner))) (jobIn (c .args .t2))))
+loop-holds c = (omega arith, sym (any-row-none (stray (c .args .nodes) (place (c .args .owner .now))) (jobIn (c .args .t3))))
 
 element-copy-out-byte : tie.Need-element-copy-out-byte Inv-loop μ-loop
 element-copy-out-byte c = omega arith
@@ -52,19 +52,19 @@ loop-less c = omega arith
 
 loop-again : tie.Need-loop-again Inv-loop μ-loop
 loop-again c =
-    let g = c .before .before .before .before .before .before .before .before .before .before .args .t1 in
-    let jobs = c .before .before .before .before .before .before .before .before .before .before .args .t2 in
+    let args = c .before .before .before .before .before .before .before .before .before .before .args in
+    let jobs = args .t3 in
     let loop = c .before .before .before .before .before .before .before .before .before .loop in (
       omega arith,
-      any-turn (stray (g .nodes) (place (g .owner))) (jobIn jobs) (loop .i) (loop .found) _ (loop .inv .1)
-          (stray-read g jobs (loop .i) _ _ _ _ (c .before .before .before .before .before .before .byte .ensures .0) (c .before .before .before .before .byte2 .ensures .0) (c .before .before .byte3 .ensures .0) (c .byte4 .ensures .0)),
+      any-turn (stray (args .nodes) (place (args .owner .now))) (jobIn jobs) (loop .i) (loop .found) _ (loop .inv .1)
+          (stray-read (args .owner .now) (args .nodes) jobs (loop .i) _ _ _ _ (c .before .before .before .before .before .before .byte .ensures .0) (c .before .before .before .before .byte2 .ensures .0) (c .before .before .byte3 .ensures .0) (c .byte4 .ensures .0)),
     )
 
 returns : tie.Need-returns Inv-loop μ-loop
 returns c =
-    let g = c .before .before .args .t1 in
-    let e : c .before .loop .i ≡ c .before .before .args .t2 .count = omega arith in
-    c .before .loop .inv .1 ∙ ap (λ (n : ℕ). anyNumbered (stray (g .nodes) (place (g .owner))) (row n (jobIn (c .before .before .args .t2)))) e
+    let args = c .before .before .args in
+    let e : c .before .loop .i ≡ c .before .before .args .t3 .count = omega arith in
+    c .before .loop .inv .1 ∙ ap (λ (n : ℕ). anyNumbered (stray (args .nodes) (place (args .owner .now))) (row n (jobIn (c .before .before .args .t3)))) e
 
 pub any-stray-spec : {M : Type 1} → statement M
 any-stray-spec =

@@ -1,6 +1,8 @@
 -- `bounded` goes through refusals 6 to 9 in their order. Assumes nothing.
 use mathlib.Core.Path.{_≡_, sym, ap, _∙_}
 use mathlib.Core.Bool.{false, _||_}
+use mathlib.Core.List.{List}
+use Prim.Native.Nat.{ℕ}
 use Rattle.sections.specs.Plan.{Plan}
 use Rattle.plan.specs.declared.Bounds.{Bounds}
 use Rattle.plan.specs.declared.Faults.{Faults}
@@ -20,25 +22,28 @@ abbrev start : tie.After-find-faults3 → tie.Start
 start f = f .before .before .before .before .before .before .before .before .before .before .before
 
 abbrev strayed : tie.After-find-faults3 → tie.Else1
-strayed f = f .before .before .before .before .before .before
+strayed f = f .before .before .before .before .before .before .before .before
 
--- the plan of the tables, and the arrays that the tests go by
+-- the plan of the tables, the job of each node, and what else the tests go by
 abbrev plan : tie.Start → Plan
 plan c = planIn (c .args .d)
 
+abbrev owner : tie.Start → List ℕ
+owner c = c .args .owner .now
+
 abbrev bounds : tie.Start → Bounds
-bounds c = boundsIn (c .args .d) (c .args .owner)
+bounds c = boundsIn (c .args .d)
 
 kept : (c : tie.Start) → bounds c ≡ boundsOf (plan c)
-kept c = bounds-kept (c .args .d) (c .args .owner) (c .pre .0) (c .pre .1)
+kept c = bounds-kept (c .args .d) (c .pre .0)
 
--- the arrays hold no job past the sixteenth
-below : (c : tie.Start) → OwnersBelow 16 (c .args .owner)
-below c = owners-on (plan c) (bounds c) (kept c) (rw row-length (c .pre .0 .jobs))
+-- no node has a job past the sixteenth
+below : (c : tie.Start) → OwnersBelow 16 (owner c)
+below c = owners-on (plan c) (owner c) (c .pre .1) (rw row-length (c .pre .0 .jobs))
 
 -- the tests by the arrays are those of the plan
-strays : (c : tie.After-any-stray) → c .any-stray .result ≡ strayEnds (plan (c .before .before .before .before))
-strays c = let s = c .before .before .before .before in c .any-stray .ensures ∙ stray-on (plan s) (bounds s) (kept s)
+strays : (c : tie.After-any-stray) → c .any-stray .result ≡ strayEnds (plan (c .before .before))
+strays c = let s = c .before .before in c .any-stray .ensures ∙ stray-on (plan s) (owner s) (s .pre .1)
 
 module _ (f : tie.After-find-faults3) where
   abbrev steps : Faults
@@ -55,21 +60,21 @@ module _ (f : tie.After-find-faults3) where
 
   aparts : (steps .apart || (calls .apart || accepts .apart)) ≡ splitEnds (plan (start f))
   aparts =
-      apart-on (plan (start f)) (bounds (start f)) (kept (start f)) steps calls accepts (f .before .before .find-faults .ensures) (f .before .find-faults2 .ensures) (f .find-faults3 .ensures)
+      apart-on (plan (start f)) (owner (start f)) (start f .pre .1) (bounds (start f)) (kept (start f)) steps calls accepts (f .before .before .find-faults .ensures) (f .before .find-faults2 .ensures) (f .find-faults3 .ensures)
 
   leavings : (steps .leaving || (calls .leaving || accepts .leaving)) ≡ exitLeft (plan (start f))
   leavings =
-      leaving-on (plan (start f)) (bounds (start f)) (kept (start f)) steps calls accepts (f .before .before .find-faults .ensures) (f .before .find-faults2 .ensures) (f .find-faults3 .ensures)
+      leaving-on (plan (start f)) (owner (start f)) (start f .pre .1) (bounds (start f)) (kept (start f)) steps calls accepts (f .before .before .find-faults .ensures) (f .before .find-faults2 .ensures) (f .find-faults3 .ensures)
 
   unknowns : (calls .unknown || accepts .unknown) ≡ noChannel (plan (start f))
   unknowns =
-      unknown-on (plan (start f)) (bounds (start f)) (kept (start f)) steps calls accepts (f .before .before .find-faults .ensures) (f .before .find-faults2 .ensures) (f .find-faults3 .ensures)
+      unknown-on (plan (start f)) (owner (start f)) (start f .pre .1) (bounds (start f)) (kept (start f)) steps calls accepts (f .before .before .find-faults .ensures) (f .before .find-faults2 .ensures) (f .find-faults3 .ensures)
 
 any-stray-requires : tie.Need-any-stray-requires
 any-stray-requires c κs = search needs
 
 returns : tie.Need-returns
-returns c = sym (ap outcomeOf (ends-6 (plan (c .before .before .before .before .before)) (told (strays (c .before)) (c .if1 .taken))))
+returns c = sym (ap outcomeOf (ends-6 (plan (c .before .before .before)) (told (strays (c .before)) (c .if1 .taken))))
 
 find-faults-requires : tie.Need-find-faults-requires
 find-faults-requires c κs = let s = c .before .before .before .before .before .before .before .before in (s .pre .0 .steps, below s)

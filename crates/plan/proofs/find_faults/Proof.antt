@@ -17,11 +17,11 @@ use Rattle.plan.proofs.find_faults.Statement.{statement}
 use Rattle.plan.proofs.find_faults.Tie as tie
 
 abbrev Inv-loop : tie.InvT-loop
-Inv-loop g arcs count nodes channels apart₀ leaving₀ unknown₀ i₀ apart leaving unknown i =
-    (i ≤ count) × (apart ≡ any (apart-test (g .nodes) (place (g .owner))) (row i (arcIn arcs))) × (leaving ≡ any (leaving-test (place (g .owner)) (place (g .exit))) (row i (arcIn arcs))) × (unknown ≡ any (unknown-test (g .channels)) (row i (arcIn arcs)))
+Inv-loop owner g arcs count nodes channels apart₀ leaving₀ unknown₀ i₀ apart leaving unknown i =
+    (i ≤ count) × (apart ≡ any (apart-test (g .nodes) (place owner)) (row i (arcIn arcs))) × (leaving ≡ any (leaving-test (place owner) (place (g .exit))) (row i (arcIn arcs))) × (unknown ≡ any (unknown-test (g .channels)) (row i (arcIn arcs)))
 
 abbrev μ-loop : tie.MeasureT-loop
-μ-loop g arcs count nodes channels apart₀ leaving₀ unknown₀ i₀ apart leaving unknown i = count - i
+μ-loop owner g arcs count nodes channels apart₀ leaving₀ unknown₀ i₀ apart leaving unknown i = count - i
 
 -- no arc has been passed yet
 none : (test : Arc → Bool) (arcs : Arcs) → false ≡ any test (row 0 (arcIn arcs))
@@ -29,11 +29,12 @@ none test arcs = sym (any-row-none (λ (k : ℕ). test) (arcIn arcs))
 
 loop-holds : tie.Need-loop-holds Inv-loop μ-loop
 loop-holds c =
-    let g = c .args .t1 in (
+    let g = c .args .t1 in
+    let owner = c .args .owner .now in (
       omega arith,
-      none (apart-test (g .nodes) (place (g .owner))) (c .args .t2),
-      none (leaving-test (place (g .owner)) (place (g .exit))) (c .args .t2),
-      none (unknown-test (g .channels)) (c .args .t2),
+      none (apart-test (g .nodes) (place owner)) (c .args .t3),
+      none (leaving-test (place owner) (place (g .exit))) (c .args .t3),
+      none (unknown-test (g .channels)) (c .args .t3),
     )
 
 element-copy-out-byte : tie.Need-element-copy-out-byte Inv-loop μ-loop
@@ -81,26 +82,28 @@ loop-less c = omega arith
 loop-again : tie.Need-loop-again Inv-loop μ-loop
 loop-again c =
     let g = c .before .before .before .before .before .before .before .before .before .before .before .before .before .before .args .t1 in
-    let arcs = c .before .before .before .before .before .before .before .before .before .before .before .before .before .before .args .t2 in
+    let owner = c .before .before .before .before .before .before .before .before .before .before .before .before .before .before .args .owner .now in
+    let arcs = c .before .before .before .before .before .before .before .before .before .before .before .before .before .before .args .t3 in
     let loop = c .before .before .before .before .before .before .before .before .before .before .before .before .before .loop in
     let from = c .before .before .before .before .before .before .before .before .before .before .byte .ensures .0 in
     let job = c .before .before .before .before .byte4 .ensures .0 in (
       omega arith,
-      any-turn (λ (k : ℕ). apart-test (g .nodes) (place (g .owner))) (arcIn arcs) (loop .i) (loop .apart) _ (loop .inv .1)
-          (apart-read g arcs (loop .i) _ from _ _ _ (c .before .before .before .before .before .before .before .before .byte2 .ensures .0) job (c .before .before .byte5 .ensures .0)),
-      any-turn (λ (k : ℕ). leaving-test (place (g .owner)) (place (g .exit))) (arcIn arcs) (loop .i) (loop .leaving) _ (loop .inv .2)
-          (leaving-read g arcs (loop .i) _ from _ _ job (c .byte6 .ensures .0)),
+      any-turn (λ (k : ℕ). apart-test (g .nodes) (place owner)) (arcIn arcs) (loop .i) (loop .apart) _ (loop .inv .1)
+          (apart-read owner g arcs (loop .i) _ from _ _ _ (c .before .before .before .before .before .before .before .before .byte2 .ensures .0) job (c .before .before .byte5 .ensures .0)),
+      any-turn (λ (k : ℕ). leaving-test (place owner) (place (g .exit))) (arcIn arcs) (loop .i) (loop .leaving) _ (loop .inv .2)
+          (leaving-read owner g arcs (loop .i) _ from _ _ job (c .byte6 .ensures .0)),
       any-turn (λ (k : ℕ). unknown-test (g .channels)) (arcIn arcs) (loop .i) (loop .unknown) _ (loop .inv .3) (unknown-read g arcs (loop .i) _ (c .before .before .before .before .before .before .byte3 .ensures .0)),
     )
 
 returns : tie.Need-returns Inv-loop μ-loop
 returns c =
     let g = c .before .before .args .t1 in
+    let owner = c .before .before .args .owner .now in
     let inv = c .before .loop .inv in
-    let e : c .before .loop .i ≡ c .before .before .args .t2 .count = omega arith in
-    let found : _≡_ {A = Faults} (record { apart = c .before .loop .apart; leaving = c .before .loop .leaving; unknown = c .before .loop .unknown }) (faultsOf g (row (c .before .loop .i) (arcIn (c .before .before .args .t2)))) =
+    let e : c .before .loop .i ≡ c .before .before .args .t3 .count = omega arith in
+    let found : _≡_ {A = Faults} (record { apart = c .before .loop .apart; leaving = c .before .loop .leaving; unknown = c .before .loop .unknown }) (faultsOf g owner (row (c .before .loop .i) (arcIn (c .before .before .args .t3)))) =
     λ k. record { apart = inv .1 k; leaving = inv .2 k; unknown = inv .3 k } in
-    found ∙ ap (λ (n : ℕ). faultsOf g (row n (arcIn (c .before .before .args .t2)))) e
+    found ∙ ap (λ (n : ℕ). faultsOf g owner (row n (arcIn (c .before .before .args .t3)))) e
 
 pub find-faults-spec : {M : Type 1} → statement M
 find-faults-spec =

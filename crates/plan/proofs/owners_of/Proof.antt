@@ -3,25 +3,38 @@ use mathlib.Core.Path.{_≡_, refl, sym, ap, _∙_}
 use mathlib.Core.List.{_++_}
 use Prim.Native.Nat.{ℕ, _+_, _-_, _≤_}
 use native.Mathlib.Omega.{arith}
-use lib.ListN.{replicate}
+use lib.ListN.{length, take, replicate}
 use Rattle.rows.specs.Rows.{row, padded}
-use Rattle.sections.specs.Tables.{jobIn}
-use Rattle.plan.specs.declared.Owners.{Owners}
-use Rattle.plan.specs.Nodes.{owners, ownersFrom}
-use Rattle.plan.specs.Reading.{ownerTable}
-use Rattle.plan.proofs.Nodes.{total-more, total-le, owners-more, owners-total, owners-kept}
+use Rattle.sections.specs.Tables.{sizes, jobIn}
+use Rattle.plan.specs.Nodes.{owners, ownersFrom, total}
+use Rattle.plan.proofs.Nodes.{total-none, total-more, total-le, owners-more, owners-total, take-padded}
 use Rattle.plan.proofs.owners_of.Statement.{statement}
 use Rattle.plan.proofs.owners_of.Tie as tie
 
 abbrev Inv-loop : tie.InvT-loop
-Inv-loop jobs count o₀ i₀ o i = (i ≤ count) × (o ≡ ownerTable (owners (row i (jobIn jobs))))
+Inv-loop jobs count owner₀ at₀ i₀ owner at i = (i ≤ count) × (owner ≡ padded 256 (owners (row i (jobIn jobs)))) × (at ≡ total (sizes (row i (jobIn jobs))))
 
 abbrev μ-loop : tie.MeasureT-loop
-μ-loop jobs count o₀ i₀ o i = count - i
+μ-loop jobs count owner₀ at₀ i₀ owner at i = count - i
 
 loop-holds : tie.Need-loop-holds Inv-loop μ-loop
 unfolding padded row ownersFrom
-loop-holds c = (omega arith, refl)
+loop-holds c = (omega arith, refl, sym (total-none (jobIn (c .args .t1))))
+
+-- what stands before the nodes of this turn's job
+passed : (c : tie.In-loop Inv-loop μ-loop) → take (c .before .loop .at) (c .before .loop .owner) ≡ owners (row (c .before .loop .i) (jobIn (c .before .before .args .t1)))
+passed c =
+    let loop = c .before .loop in
+    let xs = owners (row (c .before .loop .i) (jobIn (c .before .before .args .t1))) in
+    ap (take (loop .at)) (loop .inv .1) ∙ take-padded xs (loop .at) (owners-total (row (loop .i) (jobIn (c .before .before .args .t1))) ∙ sym (loop .inv .2))
+
+-- and its nodes are some of all
+room : (c : tie.In-loop Inv-loop μ-loop) → c .before .loop .at + jobIn (c .before .before .args .t1) (c .before .loop .i) .size ≤ 256
+room c =
+    let g = jobIn (c .before .before .args .t1) in
+    let i = c .before .loop .i in
+    let most = total-le g (i + 1) (c .before .before .args .t1 .count) (omega arith) in
+    omega (arith, total-more g i, c .before .before .pre .1, c .before .loop .inv .2)
 
 mul-wide : tie.Need-mul-wide Inv-loop μ-loop
 mul-wide c = omega arith
@@ -37,15 +50,16 @@ cast-own c = omega arith
 
 own-requires : tie.Need-own-requires Inv-loop μ-loop
 own-requires c κs =
-    let loop = c .before .before .before .loop in
-    let g = jobIn (c .before .before .before .before .args .t1) in
-    let e = c .before .before .before .loop .inv .1 in
-    let nodes = ap (λ (o : Owners). o .nodes) e ∙ owners-total (row (loop .i) g) in
-    let more = total-more g (loop .i) in
-    let most = total-le g (loop .i + 1) (c .before .before .before .before .args .t1 .count) (omega arith) in (
-      omega (arith, nodes, c .wide .ensures .0, c .before .before .before .before .pre .1),
-      e ∙ ap ownerTable (sym (owners-kept (loop .o) (owners (row (loop .i) g)) e)),
+    let e = c .before .before .before in
+    let loop = e .before .loop in
+    let jobs = row (loop .i) (jobIn (e .before .before .args .t1)) in (
+      omega (arith, room e, c .before .wide .ensures .0),
+      loop .inv .1 ∙ ap (padded 256) (sym (passed e)),
+      ap length (passed e) ∙ owners-total jobs ∙ sym (loop .inv .2),
     )
+
+add-at : tie.Need-add-at Inv-loop μ-loop
+add-at c = omega (arith, room (c .before .before .before .before), c .before .before .wide .ensures .0)
 
 add-i : tie.Need-add-i Inv-loop μ-loop
 add-i c = omega arith
@@ -55,19 +69,21 @@ loop-less c = omega arith
 
 loop-again : tie.Need-loop-again Inv-loop μ-loop
 loop-again c =
-    let loop = c .before .before .before .before .loop in
-    let g = jobIn (c .before .before .before .before .before .args .t1) in
-    let kept = owners-kept (loop .o) (owners (row (loop .i) g)) (loop .inv .1) in (
+    let e = c .before .before .before .before in
+    let loop = e .before .loop in
+    let g = jobIn (e .before .before .args .t1) in
+    let size = c .before .before .wide .ensures .0 in (
       omega arith,
-      c .own .ensures ∙ ap (λ xs. ownerTable (xs ++ replicate (c .before .wide .result) (loop .i))) kept
-          ∙ ap (λ (n : ℕ). ownerTable (owners (row (loop .i) g) ++ replicate n (loop .i))) (c .before .wide .ensures .0)
-          ∙ ap ownerTable (sym (owners-more g (loop .i))),
+      c .own .ensures ∙ ap (λ xs. padded 256 (xs ++ replicate (c .before .before .wide .result) (loop .i))) (passed e)
+          ∙ ap (λ (n : ℕ). padded 256 (owners (row (loop .i) g) ++ replicate n (loop .i))) size
+          ∙ ap (padded 256) (sym (owners-more g (loop .i))),
+      omega (arith, loop .inv .2, size, total-more g (loop .i)),
     )
 
 returns : tie.Need-returns Inv-loop μ-loop
 returns c =
     let e : c .before .loop .i ≡ c .before .before .args .t1 .count = omega arith in
-    c .before .loop .inv .1 ∙ ap (λ (n : ℕ). ownerTable (owners (row n (jobIn (c .before .before .args .t1))))) e
+    c .before .loop .inv .1 ∙ ap (λ (n : ℕ). padded 256 (owners (row n (jobIn (c .before .before .args .t1))))) e
 
 pub owners-of-spec : {M : Type 1} → statement M
 owners-of-spec =
@@ -81,6 +97,7 @@ owners-of-spec =
     wide-requires
     cast-own
     own-requires
+    add-at
     add-i
     loop-less
     loop-again

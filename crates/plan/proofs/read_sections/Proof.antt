@@ -10,7 +10,6 @@ use Rattle.sections.specs.Layout.{headOf, endAt, patternAt, planOf}
 use Rattle.rows.specs.Rows.{padded}
 use Rattle.sections.specs.Tables.{decodedOf, planIn, jobsIn}
 use Rattle.plan.specs.declared.Outcome.the-variants.{Accepted}
-use Rattle.plan.specs.declared.Owners.{Owners}
 use Rattle.plan.specs.declared.Reading.{Reading}
 use Rattle.plan.specs.Checks.{first}
 use Rattle.plan.specs.Nodes.{owners}
@@ -93,7 +92,7 @@ owners-of-requires c κs =
     (held r .jobs, omega (arith, right, nodes-read (bytes r) (passed r) (tables r) (read r)))
 
 bounded-requires : tie.Need-bounded-requires
-bounded-requires c κs = (held (c .before .before .before .before .before), ap (λ (o : Owners). o .job) (c .before .owners-of .ensures))
+bounded-requires c κs = (held (c .before .before .before .before .before), c .before .owners-of .ensures)
 
 enum-known-found : tie.Need-enum-known-found
 enum-known-found c = search needs
@@ -109,8 +108,8 @@ end-of-requires c κs =
     let r = counts (decoded (c .before .before) .before) in
     (r .jobs, r .steps, r .channels, r .calls, r .accepts)
 
-add-t13 : tie.Need-add-t13
-add-t13 c = omega (arith, c .end-of .ensures, counts (decoded (c .before .before .before) .before))
+add-t15 : tie.Need-add-t15
+add-t15 c = omega (arith, c .end-of .ensures, counts (decoded (c .before .before .before) .before))
 
 returns-2 : tie.Need-returns-2
 returns-2 c =
@@ -124,7 +123,7 @@ returns-3 c =
     let f = c .before .before .before in
     let r = decoded f in
     let none-applies = outcome-accepted (first shape (planOf (bytes r))) (bound f ∙ c .before .enum-told .given .1) in
-    let owner = ap (λ (o : Owners). o .job) (f .before .before .owners-of .ensures) ∙ ap (λ (p : Plan). padded 256 (owners (p .jobs))) (said r) in
+    let owner = f .before .before .owners-of .ensures ∙ ap (λ (p : Plan). padded 256 (owners (p .jobs))) (said r) in
     let pattern = ap (λ (n : ℕ). (n + 7) / 8) (c .end-of .ensures ∙ ap endAt (r .before .read-head .ensures)) in
     whole (bytes r) _ _ _ (read r) owner pattern ∙ sym (ap (λ (o : Option ℕ). answered o (bytes r)) none-applies)
 
@@ -143,6 +142,6 @@ read-sections-spec =
     turned-down-requires-2
     enum-told
     end-of-requires
-    add-t13
+    add-t15
     returns-2
     returns-3)
