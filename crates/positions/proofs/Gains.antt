@@ -6,9 +6,10 @@ use mathlib.Core.Logic.{_≢_, by-cases}
 use Prim.Native.Nat.{ℕ, _-_, _^_, _<_}
 use native.Mathlib.Omega.{arith}
 use native.Mathlib.Decide.{ℕ-discrete}
-use lib.Bits.{bitOr, bitAnd, bitXor, or-zero-r}
+use lib.Bits.{bitOr, bitAnd, bitXor, or-zero-r, and-le-r, xor-lt}
 use lib.Dec.{eqb}
 use lib.ListN.{length, set, length-set}
+use lib.Pow.{pow-lt}
 use lib.Seq.{getD-set-same, getD-set-other}
 use Rattle.masks.specs.Mask.{digit, In, has}
 use Rattle.masks.proofs.Members.{digit-lt, digit-and, digit-xor, digit-none, digit-other, digit-self, in-all, in-has}
@@ -39,19 +40,25 @@ none-gains f x p = rw (digit-none p, or-zero-r)
 
 -- the sets are those of `old`, but for the members of m that are left
 pub record Gaining (old : List ℕ) (m x left : ℕ) (sets : List ℕ) : Type 0 where
+  pub few : left < 2 ^ 33
   pub places : length sets ≡ 33
   pub rest : (p : ℕ) → p < 33 → gains (place sets) left x p ≡ gains (place old) m x p
 
 module _ (old : List ℕ) (m x : ℕ) where
   pub gaining-none : length old ≡ 33 → Gaining old m x (bitAnd m (2 ^ 33 - 1)) old
   gaining-none h = record {
+    few = omega (arith, and-le-r m (2 ^ 33 - 1));
     places = h;
     rest = λ p l. ap (λ (b : Bool). bitOr (place old p) (cond b x 0)) (has-low m p l);
   }
 
   pub gaining-more : (left e : ℕ) (sets : List ℕ) → Gaining old m x left sets → In e left → e < 33
       → Gaining old m x (bitXor left (2 ^ e)) (set sets e (bitOr (place sets e) x))
-  gaining-more left e sets g i h = record { places = length-set sets e _ ∙ g .places; rest = rest }
+  gaining-more left e sets g i h = record {
+    few = xor-lt 33 left (2 ^ e) (g .few) (pow-lt h);
+    places = length-set sets e _ ∙ g .places;
+    rest = rest;
+  }
     where
       rest : (p : ℕ) → p < 33 → gains (place (set sets e (bitOr (place sets e) x))) (bitXor left (2 ^ e)) x p ≡ gains (place old) m x p
       rest p l =

@@ -1,9 +1,7 @@
 -- `gain` takes the members one by one, the lowest first: before each turn those that are not left have gained. Assumes nothing.
-use Prim.Native.Nat.{ℕ, _^_, _<_}
+use Prim.Native.Nat.{ℕ, _<_}
 use native.Mathlib.Omega.{arith}
-use lib.Bits.{and-le-r, xor-lt}
 use lib.Count.{ones, trailingZeros}
-use lib.Pow.{pow-lt}
 use Rattle.masks.specs.Mask.{In}
 use Rattle.masks.proofs.Counts.{lowest-in, ones-without}
 use Rattle.masks.proofs.Members.{single-code, in-below}
@@ -12,7 +10,7 @@ use Rattle.positions.proofs.gain.Statement.{statement}
 use Rattle.positions.proofs.gain.Tie as tie
 
 abbrev Inv-loop : tie.InvT-loop
-Inv-loop sets₀ m x left₀ sets left = (left < 2 ^ 33) × Gaining sets₀ m x left sets
+Inv-loop sets₀ m x left₀ sets left = Gaining sets₀ m x left sets
 
 abbrev μ-loop : tie.MeasureT-loop
 μ-loop sets₀ m x left₀ sets left = ones left
@@ -25,12 +23,10 @@ lowest : (c : tie.In-loop Inv-loop μ-loop) → In (member c) (c .before .loop .
 lowest c =
     let left = c .before .loop .left in
     let low = lowest-in 64 left (omega arith) (omega arith) in
-    (low .0, in-below 33 left (member c) (c .before .loop .inv .0) (low .0))
+    (low .0, in-below 33 left (member c) (c .before .loop .inv .few) (low .0))
 
 loop-holds : tie.Need-loop-holds Inv-loop μ-loop
-loop-holds c =
-    let args = c .args in
-    (omega (arith, and-le-r (args .m) 8589934591), gaining-none (args .sets .now) (args .m) (args .x) (c .pre))
+loop-holds c = gaining-none (c .args .sets .now) (c .args .m) (c .args .x) (c .pre)
 
 cast-sets : tie.Need-cast-sets Inv-loop μ-loop
 cast-sets c = omega (arith, lowest c .1)
@@ -67,13 +63,11 @@ loop-again c =
     let loop = c .before .before .loop in
     let p = member (c .before) in
     let low = lowest (c .before) in
-    rw (single-code 64 p (omega (arith, low .1))) (
-      xor-lt 33 (loop .left) (2 ^ p) (loop .inv .0) (omega (arith, pow-lt (low .1))),
-      gaining-more (args .sets .now) (args .m) (args .x) (loop .left) p (loop .sets) (loop .inv .1) (low .0) (low .1),
-    )
+    rw (single-code 64 p (omega (arith, low .1)))
+    (gaining-more (args .sets .now) (args .m) (args .x) (loop .left) p (loop .sets) (loop .inv) (low .0) (low .1))
 
 returns : tie.Need-returns Inv-loop μ-loop
-returns c = gaining-all _ _ _ _ (rw (c .loop-test .left) at (c .before .loop .inv .1))
+returns c = gaining-all _ _ _ _ (rw (c .loop-test .left) at (c .before .loop .inv))
 
 pub gain-spec : {M : Type 1} → statement M
 gain-spec =
