@@ -10,6 +10,9 @@ const USAGE: &str = "usage: differential [--count N] [--seed S] [--start I]";
 /// A run of so many plans or more must meet all that is asked for.
 const FULL_LENGTH: u64 = 20_000;
 
+/// How many plans a run has if nothing is said.
+const COUNT: u64 = 200_000;
+
 /// What the command line asks for.
 struct Options {
     count: u64,
@@ -20,7 +23,7 @@ struct Options {
 
 fn options(mut words: impl Iterator<Item = String>) -> Option<Options> {
     let mut options = Options {
-        count: FULL_LENGTH,
+        count: COUNT,
         seed: 1,
         start: 0,
     };
