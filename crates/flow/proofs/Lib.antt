@@ -6,3 +6,4 @@ pub mod Evaluate
 pub mod Cases
 pub mod Lending
 pub mod Stages
+pub mod Settling
