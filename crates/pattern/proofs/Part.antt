@@ -18,7 +18,7 @@ use Rattle.plan.proofs.Legality.{legal}
 use Rattle.items.specs.Tables.{itemTable}
 use Rattle.items.specs.Postfix.{Postfix}
 use Rattle.items.proofs.Kept.{items-postfix, items-bytes}
-use Rattle.pattern.specs.Refusals.{rest, itemsOfPlan, badItems, readable, tooManyStates, acceptable, partUnder, patternPart}
+use Rattle.pattern.specs.Refusals.{rest, itemsOfPlan, badItems, readable, tooManyStates, acceptable, partUnder, patternPart, startUnder, partStart}
 use Rattle.pattern.specs.Reading.{answered, patternReadOf}
 use Rattle.pattern.proofs.Order.{readable-parts}
 
@@ -59,30 +59,29 @@ acceptable-parts : (b : List ℕ) → first acceptable b ≡ orElse (first reada
 acceptable-parts b = first-last readable (refuse 16 tooManyStates) b
 
 module _ (b : List ℕ) where
-  part : (o : Option ℕ) → first acceptable b ≡ o → patternPart b ≡ partUnder o b
+  -- by the first refusal: the part, and where it begins
+  pub part-is : (o : Option ℕ) → first acceptable b ≡ o → patternPart b ≡ partUnder o b
   unfolding patternPart
-  part o e = ap (λ (x : Option ℕ). partUnder x b) e
+  part-is o e = ap (λ (x : Option ℕ). partUnder x b) e
 
-  pub part-refused : (n : ℕ) → first readable b ≡ some n → patternPart b ≡ []
-  part-refused n e = part (some n) (acceptable-parts b ∙ ap (λ (o : Option ℕ). orElse o (cond (tooManyStates b) (some 16) none)) e)
+  pub start-is : (o : Option ℕ) → first acceptable b ≡ o → partStart b ≡ startUnder o b
+  unfolding partStart
+  start-is o e = ap (λ (x : Option ℕ). startUnder x b) e
 
-  module _ (passed : first readable b ≡ none) where
-    under : (t : Bool) → tooManyStates b ≡ t → first acceptable b ≡ cond t (some 16) none
-    under t e = acceptable-parts b ∙ ap (λ (o : Option ℕ). orElse o (cond (tooManyStates b) (some 16) none)) passed ∙ ap (λ (x : Bool). cond x (some 16) none) e
+  pub refused-early : (n : ℕ) → first readable b ≡ some n → first acceptable b ≡ some n
+  refused-early n e = acceptable-parts b ∙ ap (λ (o : Option ℕ). orElse o (cond (tooManyStates b) (some 16) none)) e
 
-    pub part-over : tooManyStates b ≡ true → patternPart b ≡ []
-    part-over e = part (some 16) (under true e)
-
-    pub part-there : tooManyStates b ≡ false → patternPart b ≡ rest b
-    part-there e = part none (under false e)
+  pub decided-by-states : first readable b ≡ none → (t : Bool) → tooManyStates b ≡ t → first acceptable b ≡ cond t (some 16) none
+  decided-by-states passed t e =
+      acceptable-parts b ∙ ap (λ (o : Option ℕ). orElse o (cond (tooManyStates b) (some 16) none)) passed ∙ ap (λ (x : Bool). cond x (some 16) none) e
 
 -- "The part is empty if and only if one of 1 to 16 applies."
 pub part-empty : (b : List ℕ) → (patternPart b ≡ []) ↔ ((n : ℕ) × (first acceptable b ≡ some n))
 part-empty b = (
   (λ e. go (first acceptable b) refl e),
-  (λ h. part b (some (h .0)) (h .1)),
+  (λ h. part-is b (some (h .0)) (h .1)),
 )
   where
     go : (o : Option ℕ) → first acceptable b ≡ o → patternPart b ≡ [] → (n : ℕ) × (first acceptable b ≡ some n)
     go (some n) h e = (n, h)
-    go none h e = absurd (rest-some b (both-none (first readable b) (cond (tooManyStates b) (some 16) none) (sym (acceptable-parts b) ∙ h) .0) (sym (part b none h) ∙ e))
+    go none h e = absurd (rest-some b (both-none (first readable b) (cond (tooManyStates b) (some 16) none) (sym (acceptable-parts b) ∙ h) .0) (sym (part-is b none h) ∙ e))

@@ -1,8 +1,9 @@
 -- The pattern of a plan, and the refusals 10 to 16 behind those before it. Document 01, "When a plan is turned down".
+use mathlib.Core.Path.{_≡_}
 use mathlib.Core.Bool.{Bool, true, false}
 use mathlib.Core.List.{List, [], _∷_, _++_}
 use mathlib.Core.Option.{Option, none, some}
-use Prim.Native.Nat.{ℕ}
+use Prim.Native.Nat.{ℕ, _+_}
 use lib.ListN.{drop}
 use Rattle.sections.specs.Layout.{headOf, patternAt, planOf}
 use Rattle.plan.specs.Checks.{Check, refuse, first}
@@ -53,3 +54,18 @@ partUnder (some n) b = []
 -- of 1 to 16 applies."
 unfoldable pub patternPart : List ℕ → List ℕ
 patternPart b = partUnder (first acceptable b) b
+
+-- the byte of the plan where the part begins: that of the pattern, the first one where the part is empty
+abbrev pub startUnder : Option ℕ → List ℕ → ℕ
+startUnder none b = patternAt (headOf b)
+startUnder (some n) b = 0
+
+unfoldable pub partStart : List ℕ → ℕ
+partStart b = startUnder (first acceptable b) b
+
+-- what comes back of the bytes b of a plan: `from` is where the plan begins in memory, a block and an offset in it, and `at` where
+-- the part does. "that very part of the plan": not equal bytes that stand elsewhere
+pub record PartOf (b : List ℕ) (from : ℕ × ℕ) (part : List ℕ) (at : ℕ × ℕ) : Type 0 where
+  pub bytes : part ≡ patternPart b
+  pub block : at .0 ≡ from .0
+  pub offset : at .1 ≡ from .1 + partStart b

@@ -4,11 +4,12 @@ use plan::Outcome;
 use plan::Reading;
 ghost use mathlib.Core.Path.{_≡_};
 ghost use mathlib.Core.Bool.{not};
+ghost use denote.Ref.{ptr};
 ghost use Rattle.regex.specs.Items.{patternOf};
 ghost use Rattle.items.specs.Tables.{itemsOn};
 ghost use Rattle.items.specs.Postfix.{Postfix};
 ghost use Rattle.automaton.specs.Automaton.{statesOf};
-ghost use Rattle.pattern.specs.Refusals.{overLimit, patternPart};
+ghost use Rattle.pattern.specs.Refusals.{overLimit, PartOf};
 ghost use Rattle.pattern.specs.Reading.{refused, patternReadOf};
 
 // A plan that was read, with the items of its pattern. Nothing on a refusal.
@@ -64,9 +65,9 @@ fn few_states(items: Items, alphabet: u32) -> bool
     s.fits
 }
 
-// The pattern's part of an accepted plan; no bytes where one of 1 to 16 applies.
+// The pattern's part of an accepted plan, where it stands in it; no bytes where one of 1 to 16 applies.
 pub fn pattern_part(plan: &[u8]) -> &[u8]
-    ensures { λ r. ⌜ now r ≡ patternPart (now (plan .entry)) ⌝ }
+    ensures { λ r. ⌜ PartOf (now (plan .entry)) (ptr (plan .entry)) (now r) (ptr r) ⌝ }
 {
     let read = read_pattern(plan);
     let reading = read.reading;

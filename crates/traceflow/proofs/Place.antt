@@ -14,7 +14,7 @@ use Rattle.plan.specs.Checks.{refuse, first}
 use Rattle.plan.proofs.Tests.{both-none, first-last}
 use Rattle.pattern.specs.Refusals.{rest, readable, tooManyStates, acceptable, partUnder, patternPart}
 use Rattle.pattern.proofs.Order.{pattern-there}
-use Rattle.pattern.proofs.Part.{before-items, part-empty}
+use Rattle.pattern.proofs.Part.{before-items, part-is, part-empty}
 use Rattle.traceflow.specs.Exported.{placeUnder, placeOf, atEnd}
 
 -- a list without places is empty
@@ -34,10 +34,6 @@ none-some : (n : ℕ) → none ≡ some n → ⊥
 none-some n e = subst Passed e tt
 
 module _ (b : List ℕ) where
-  part-is : (o : Option ℕ) → first acceptable b ≡ o → patternPart b ≡ partUnder o b
-  unfolding patternPart
-  part-is o e = ap (λ (x : Option ℕ). partUnder x b) e
-
   place-is : (o : Option ℕ) → first acceptable b ≡ o → placeOf b ≡ placeUnder o b
   unfolding placeOf
   place-is o e = ap (λ (x : Option ℕ). placeUnder x b) e
@@ -49,25 +45,25 @@ module _ (b : List ℕ) where
 
     some-bytes : length (rest b) ≡ 0 → ⊥
     some-bytes z =
-        let refused = part-empty b .0 (part-is none e ∙ none-long (rest b) z) in
+        let refused = part-empty b .0 (part-is b none e ∙ none-long (rest b) z) in
         none-some (refused .0) (sym e ∙ refused .1)
 
   pub part-within : length (patternPart b) ≤ length b
   part-within = go (first acceptable b) refl
     where
       go : (o : Option ℕ) → first acceptable b ≡ o → length (patternPart b) ≤ length b
-      go (some n) e = omega (arith, ap length (part-is (some n) e))
-      go none e = omega (arith, ap length (part-is none e), length-drop (patternAt (headOf b)) b)
+      go (some n) e = omega (arith, ap length (part-is b (some n) e))
+      go none e = omega (arith, ap length (part-is b none e), length-drop (patternAt (headOf b)) b)
 
   -- where the code finds it
   pub place-at-end : atEnd (length b) (length (patternPart b)) ≡ placeOf b
   place-at-end = go (first acceptable b) refl
     where
       go : (o : Option ℕ) → first acceptable b ≡ o → atEnd (length b) (length (patternPart b)) ≡ placeOf b
-      go (some n) e = ap (λ (l : List ℕ). atEnd (length b) (length l)) (part-is (some n) e) ∙ sym (place-is (some n) e)
+      go (some n) e = ap (λ (l : List ℕ). atEnd (length b) (length l)) (part-is b (some n) e) ∙ sym (place-is (some n) e)
       go none e =
           let from : length b - length (rest b) ≡ patternAt (headOf b) = omega (arith, length-drop (patternAt (headOf b)) b, starts e) in
-          ap (λ (l : List ℕ). atEnd (length b) (length l)) (part-is none e) ∙ ended (length b) (length (rest b)) (some-bytes e)
+          ap (λ (l : List ℕ). atEnd (length b) (length l)) (part-is b none e) ∙ ended (length b) (length (rest b)) (some-bytes e)
           ∙ ap (λ (k : ℕ). k ∷ length (rest b) ∷ []) from
           ∙ sym (place-is none e)
 
@@ -79,5 +75,5 @@ module _ (b : List ℕ) where
       stands place = take (getD place 1 0) (drop (getD place 0 0) b)
 
       go : (o : Option ℕ) → first acceptable b ≡ o → stands (placeOf b) ≡ patternPart b
-      go (some n) e = ap stands (place-is (some n) e) ∙ sym (part-is (some n) e)
-      go none e = ap stands (place-is none e) ∙ take-all (length (rest b)) (rest b) (le-of-eq refl) ∙ sym (part-is none e)
+      go (some n) e = ap stands (place-is (some n) e) ∙ sym (part-is b (some n) e)
+      go none e = ap stands (place-is none e) ∙ take-all (length (rest b)) (rest b) (le-of-eq refl) ∙ sym (part-is b none e)

@@ -15,12 +15,12 @@ pattern-part-requires c κs = search needs
 at-end-requires : tie.Need-at-end-requires
 at-end-requires c κs =
     let b = c .before .before .args .plan .now in
-    subst (λ (l : List ℕ). length l ≤ length b) (sym (c .pattern-part .ensures)) (part-within b)
+    subst (λ (l : List ℕ). length l ≤ length b) (sym (c .pattern-part .ensures .bytes)) (part-within b)
 
 returns : tie.Need-returns
 returns c =
     let b = c .before .before .before .args .plan .now in
-    c .at-end .ensures ∙ ap (λ (l : List ℕ). atEnd (length b) (length l)) (c .before .pattern-part .ensures) ∙ place-at-end b
+    c .at-end .ensures ∙ ap (λ (l : List ℕ). atEnd (length b) (length l)) (c .before .pattern-part .ensures .bytes) ∙ place-at-end b
 
 pub traceflow-pattern-part-spec : {M : Type 1} → statement M
 traceflow-pattern-part-spec = tie.close (tie.spec pattern-part-requires at-end-requires returns)
