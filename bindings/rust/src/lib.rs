@@ -37,22 +37,22 @@ extern "C" {
 /// Judges a plan. On a verdict the first places of the row, one a node, hold the sets, and later places are as they were; on a
 /// refusal the whole row is. A row of 256 places is enough for every plan.
 pub fn judge(plan: &[u8], row: &mut [u64]) -> Answer {
-    let mut told = [0; 7];
-    // SAFETY: each pointer is that of a live slice or array with the length beside it, and `row` and `told` are borrowed alone.
+    let mut values = [0; 7];
+    // SAFETY: each pointer is that of a live slice or array with the length beside it, and `row` and `values` are borrowed alone.
     let refused = unsafe {
         traceflow_judge(
             plan.as_ptr(),
             plan.len(),
             row.as_mut_ptr(),
             row.len(),
-            &mut told,
+            &mut values,
         )
     };
     if refused != 0 {
         return Answer::Refused(refused);
     }
     // The counts are numbers of 32 bits in the proved code.
-    let [verified, states, meetings, ordering, pairs, fill, final_set] = told;
+    let [verified, states, meetings, ordering, pairs, fill, final_set] = values;
     let counts = Counts {
         states: states as u32,
         meetings: meetings as u32,

@@ -1,2 +1,2 @@
 pub mod Line
-pub mod Kept
+pub mod Array

@@ -39,11 +39,11 @@ fields c =
     ++ text " final " ++ hexadecimal (c .ends)
 
 -- "verdict (`verified` or `inconclusive`)", then the fields; "A refusal prints `refused 5`, with its number."
-abbrev pub told : Answer → List ℕ
-told (Refused n) = text "refused " ++ decimal n
-told (Verified c) = text "verified" ++ fields c
-told (Inconclusive c) = text "inconclusive" ++ fields c
+abbrev pub answerText : Answer → List ℕ
+answerText (Refused n) = text "refused " ++ decimal n
+answerText (Verified c) = text "verified" ++ fields c
+answerText (Inconclusive c) = text "inconclusive" ++ fields c
 
 -- "prints one line": it ends with one line feed
 unfoldable pub lineOf : Answer → List ℕ
-lineOf a = told a ++ text "\n"
+lineOf a = answerText a ++ text "\n"

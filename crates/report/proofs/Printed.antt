@@ -17,13 +17,13 @@ use Rattle.verifier.specs.Order.{shortRow, judgeable}
 use Rattle.verifier.proofs.Unique.{judged-unique}
 use Rattle.line.specs.declared.Line.{Line}
 use Rattle.line.specs.Line.{lineOf}
-use Rattle.line.specs.Kept.{kept}
+use Rattle.line.specs.Array.{lineArray}
 use Rattle.report.specs.Reports.{Reports}
 
 pub reports-unique : (b : List ℕ) (l m : Line) → Reports b l → Reports b m → l ≡ m
 reports-unique b l m x y =
-    x .told ∙ ap (λ (a : Answer). kept (lineOf a)) (judged-unique b (replicate 256 0) (x .answer) (y .answer) (x .row) (y .row) (x .judged) (y .judged) .0)
-    ∙ sym (y .told)
+    x .printed ∙ ap (λ (a : Answer). lineArray (lineOf a)) (judged-unique b (replicate 256 0) (x .answer) (y .answer) (x .row) (y .row) (x .judged) (y .judged) .0)
+    ∙ sym (y .printed)
 
 -- a row of 256 places is long enough for every plan: the refusals are those of the plan on its own, 1 to 16
 pub enough-places : (b : List ℕ) → first (judgeable 256) b ≡ first acceptable b

@@ -7,13 +7,13 @@ use Rattle.verdict.specs.declared.Answer.{Answer}
 use Rattle.verifier.specs.Judged.{Judged}
 use Rattle.line.specs.declared.Line.{Line}
 use Rattle.line.specs.Line.{lineOf}
-use Rattle.line.specs.Kept.{kept}
+use Rattle.line.specs.Array.{lineArray}
 
 -- "prints one line": that of the answer to the bytes b, judged with a row of 256 places
 pub record Reports (b : List ℕ) (line : Line) : Type 0 where
   pub answer : Answer
   pub row : List ℕ
   pub judged : Judged b (replicate 256 0) answer row
-  pub told : line ≡ kept (lineOf answer)
+  pub printed : line ≡ lineArray (lineOf answer)
   -- the line is within its array
   pub fits : line .used ≤ 128

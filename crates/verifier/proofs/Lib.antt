@@ -6,5 +6,6 @@ pub mod Row
 pub mod Parts
 pub mod Settled
 pub mod Unique
+pub mod Numbers
 pub mod Evaluate
 pub mod Cases

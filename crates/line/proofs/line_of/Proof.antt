@@ -7,20 +7,20 @@ use native.Mathlib.Omega.{arith}
 use lib.ListN.{length-append}
 use Rattle.verdict.specs.declared.Answer.{Answer}
 use Rattle.line.specs.declared.Line.{Line}
-use Rattle.line.specs.Line.{text, told, lineOf}
-use Rattle.line.specs.Kept.{kept}
+use Rattle.line.specs.Line.{text, answerText, lineOf}
+use Rattle.line.specs.Array.{lineArray}
 use Rattle.line.proofs.Fields.{count-behind}
 use borrow.Author.Needs.{needs}
 use Rattle.line.proofs.line_of.Statement.{statement}
 use Rattle.line.proofs.line_of.Tie as tie
 
 -- what an arm makes, where the answer is the arm's
-arm : {line made : Line} {a b : Answer} → line ≡ made → made ≡ kept (told b) → made .used < 128 → a ≡ b
-    → (line ≡ kept (told a)) × (line .used < 128)
-arm e t l q = (e ∙ t ∙ ap (λ a. kept (told a)) (sym q), rw e l)
+arm : {line made : Line} {a b : Answer} → line ≡ made → made ≡ lineArray (answerText b) → made .used < 128 → a ≡ b
+    → (line ≡ lineArray (answerText a)) × (line .used < 128)
+arm e t l q = (e ∙ t ∙ ap (λ a. lineArray (answerText a)) (sym q), rw e l)
 
 -- the line before its end
-so-far : (c : tie.At-match-came) → (c .match .line ≡ kept (told (c .before .args .a))) × (c .match .line .used < 128)
+so-far : (c : tie.At-match-came) → (c .match .line ≡ lineArray (answerText (c .before .args .a))) × (c .match .line .used < 128)
 so-far c =
     ⊎-elim
     (λ w.
@@ -66,15 +66,15 @@ slice-aggregate-with-text c = search needs
 with-text-requires : tie.Need-with-text-requires
 with-text-requires c κs =
     let e = so-far (c .before) in
-    (told (c .before .before .args .a), e .0, omega (arith, e .1, ap (λ (r : Line). r .used) (e .0)))
+    (answerText (c .before .before .args .a), e .0, omega (arith, e .1, ap (λ (r : Line). r .used) (e .0)))
 
 returns : tie.Need-returns
 unfolding lineOf
 returns c =
     let e = so-far (c .before .before) in
     let a = c .before .before .before .args .a in
-    let all = c .with-text .ensures (told a) (e .0) in
-    (all, omega (arith, e .1, ap (λ (r : Line). r .used) (e .0), ap (λ (r : Line). r .used) all, length-append (told a) (text "\n")))
+    let all = c .with-text .ensures (answerText a) (e .0) in
+    (all, omega (arith, e .1, ap (λ (r : Line). r .used) (e .0), ap (λ (r : Line). r .used) all, length-append (answerText a) (text "\n")))
 
 pub line-of-spec : {M : Type 1} → statement M
 line-of-spec =

@@ -5,7 +5,7 @@ use Prim.Native.Nat.{ℕ}
 use native.Mathlib.Omega.{arith}
 use lib.ListN.{take}
 use Rattle.line.specs.Line.{decimal}
-use Rattle.line.specs.Kept.{kept}
+use Rattle.line.specs.Array.{lineArray}
 use Rattle.line.proofs.Numbers.{decimal-digits, decimal-short}
 use borrow.Author.Needs.{needs}
 use Rattle.line.proofs.with_count.Statement.{statement}
@@ -35,7 +35,7 @@ with-field-requires c κs =
 returns : tie.Need-returns
 returns c l e =
     let text = c .before .before .before .before .before .args .text .now in
-    c .with-field .ensures l e ∙ ap (λ (xs : List ℕ). kept (l ++ text ++ xs)) (written (c .before .before))
+    c .with-field .ensures l e ∙ ap (λ (xs : List ℕ). lineArray (l ++ text ++ xs)) (written (c .before .before))
 
 pub with-count-spec : {M : Type 1} → statement M
 with-count-spec =

@@ -6,7 +6,7 @@ use native.Mathlib.Omega.{arith}
 use borrow.Author.Needs.{needs}
 use Rattle.line.specs.declared.Line.{Line}
 use Rattle.line.specs.Line.{text, decimal, hexadecimal, fields}
-use Rattle.line.specs.Kept.{kept}
+use Rattle.line.specs.Array.{lineArray}
 use Rattle.line.proofs.Fields.{Holds, count-behind, set-behind, six-fields}
 use Rattle.line.proofs.with_fields.Statement.{statement}
 use Rattle.line.proofs.with_fields.Tie as tie
@@ -153,7 +153,7 @@ with-set-requires : tie.Need-with-set-requires
 with-set-requires c κs = let h = fill (c .before) in (upToFill (of-fill (c .before)), h .0, omega (arith, h .1))
 
 returns : tie.Need-returns
-returns c = let h = final-set c in (h .0 ∙ ap kept (joined (of-final c)), omega (arith, h .1, ap (λ (r : Line). r .used) (h .0)))
+returns c = let h = final-set c in (h .0 ∙ ap lineArray (joined (of-final c)), omega (arith, h .1, ap (λ (r : Line). r .used) (h .0)))
 
 pub with-fields-spec : {M : Type 1} → statement M
 with-fields-spec =

@@ -5,7 +5,7 @@ use Prim.Native.Nat.{ℕ}
 use native.Mathlib.Omega.{arith}
 use lib.ListN.{take}
 use Rattle.line.specs.Line.{hexadecimal}
-use Rattle.line.specs.Kept.{kept}
+use Rattle.line.specs.Array.{lineArray}
 use Rattle.line.proofs.Numbers.{hexadecimal-digits}
 use borrow.Author.Needs.{needs}
 use Rattle.line.proofs.with_set.Statement.{statement}
@@ -34,7 +34,7 @@ with-field-requires c κs =
 returns : tie.Need-returns
 returns c l e =
     let text = c .before .before .before .before .before .args .text .now in
-    c .with-field .ensures l e ∙ ap (λ (xs : List ℕ). kept (l ++ text ++ xs)) (written (c .before .before))
+    c .with-field .ensures l e ∙ ap (λ (xs : List ℕ). lineArray (l ++ text ++ xs)) (written (c .before .before))
 
 pub with-set-spec : {M : Type 1} → statement M
 with-set-spec =

@@ -17,7 +17,7 @@ returns c = record {
   answer = c .before .before .judge .result;
   row = _;
   judged = c .before .before .judge .ensures;
-  told = c .line-of .ensures .0;
+  printed = c .line-of .ensures .0;
   fits = c .line-of .ensures .1;
 }
 

@@ -5,19 +5,19 @@ use Prim.Native.Nat.{ℕ}
 use Rattle.verdict.specs.declared.Answer.{Answer}
 use Rattle.verdict.specs.declared.Answer.the-variants.{Refused, Verified, Inconclusive}
 use Rattle.verifier.specs.Judged.{Judged}
-use Rattle.traceflow.specs.Exported.{numberOf, toldIn, Exported}
+use Rattle.traceflow.specs.Exported.{numberOf, valuesIn, Exported}
 use borrow.Author.Needs.{needs}
 use Rattle.traceflow.proofs.traceflow_judge.Statement.{statement}
 use Rattle.traceflow.proofs.traceflow_judge.Tie as tie
 
--- the judge's answer is `told`, and the array holds what goes with it
-exported : {b before counts after values : List ℕ} {a : Answer} (told : Answer) → Judged b before a after → a ≡ told → values ≡ toldIn told counts
-    → Exported b before counts (numberOf told) after values
-exported {b} {before} {counts} {after} {values} {a} told j e v = record {
+-- the judge's answer is `said`, and the array holds what goes with it
+exported : {b before counts after values : List ℕ} {a : Answer} (said : Answer) → Judged b before a after → a ≡ said → values ≡ valuesIn said counts
+    → Exported b before counts (numberOf said) after values
+exported {b} {before} {counts} {after} {values} {a} said j e v = record {
   answer = a;
   judged = j;
   numbered = ap numberOf (sym e);
-  values = v ∙ ap (λ (x : Answer). toldIn x counts) (sym e);
+  values = v ∙ ap (λ (x : Answer). valuesIn x counts) (sym e);
 }
 
 judge-requires : tie.Need-judge-requires
