@@ -10,6 +10,7 @@ mod fault_in_jobs;
 mod hex;
 mod layout;
 mod pattern;
+pub mod program;
 pub mod random;
 pub mod runs;
 mod sound;
