@@ -2,6 +2,7 @@
 //! laws that need no other implementation.
 
 use crate::case::Case;
+use crate::hex::hex;
 use crate::layout::NODES;
 use std::fmt::Write;
 use std::ops::Range;
@@ -143,8 +144,8 @@ fn report(fault: &str, case: &Case, proved: &Outcome, independent: &Outcome) -> 
 }
 
 fn describe(case: &Case) -> String {
-    let hex: String = case.plan.iter().map(|byte| format!("{byte:02x}")).collect();
-    format!("bytes {hex}\nrow of {} places", case.row.len())
+    let (bytes, places) = (hex(&case.plan), case.row.len());
+    format!("bytes {bytes}\nrow of {places} places")
 }
 
 #[cfg(test)]

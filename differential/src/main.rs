@@ -1,11 +1,14 @@
 //! Compares the two implementations of the verifier on generated plans.
 
 use differential::coverage::Coverage;
-use differential::{case, compare, runs};
+use differential::{case, compare, program, runs};
+use std::path::PathBuf;
 use std::process::ExitCode;
 use std::time::Instant;
 
-const USAGE: &str = "usage: differential [--count N] [--seed S] [--start I]";
+const USAGE: &str = "usage: differential [--count N] [--seed S] [--start I] [--program FILE]
+Compares the library on N plans from number I on. Every run also explores small plans of the seed and tries the program, FILE or
+target/bin/judge, on inputs of the seed, whatever N and I.";
 
 /// A run of so many plans or more must meet all that is asked for.
 const FULL_LENGTH: u64 = 20_000;
@@ -13,12 +16,17 @@ const FULL_LENGTH: u64 = 20_000;
 /// How many plans a run has if nothing is said.
 const COUNT: u64 = 200_000;
 
+/// The program that `rt check judge` builds.
+const PROGRAM: &str = concat!(env!("CARGO_MANIFEST_DIR"), "/../target/bin/judge");
+
 /// What the command line asks for.
 struct Options {
     count: u64,
     seed: u64,
     /// The number of the first plan.
     start: u64,
+    /// The built program.
+    program: PathBuf,
 }
 
 fn options(mut words: impl Iterator<Item = String>) -> Option<Options> {
@@ -26,15 +34,17 @@ fn options(mut words: impl Iterator<Item = String>) -> Option<Options> {
         count: COUNT,
         seed: 1,
         start: 0,
+        program: PROGRAM.into(),
     };
     while let Some(word) = words.next() {
-        let value = match word.as_str() {
-            "--count" => &mut options.count,
-            "--seed" => &mut options.seed,
-            "--start" => &mut options.start,
+        let value = words.next()?;
+        match word.as_str() {
+            "--count" => options.count = value.parse().ok()?,
+            "--seed" => options.seed = value.parse().ok()?,
+            "--start" => options.start = value.parse().ok()?,
+            "--program" => options.program = value.into(),
             _ => return None,
-        };
-        *value = words.next()?.parse().ok()?;
+        }
     }
     Some(options)
 }
@@ -61,6 +71,9 @@ fn run(options: &Options) -> Result<(), String> {
         return Err(format!("never met: {}", missing.join("; ")));
     }
     println!("{}", runs::check_all(options.seed)?);
+    let begun = Instant::now();
+    let summary = program::check_all(&options.program, options.seed)?;
+    println!("{summary}; {:.1} seconds", begun.elapsed().as_secs_f64());
     Ok(())
 }
 

@@ -18,7 +18,7 @@ pub fn pattern(alphabet: u32, length: usize, random: &mut Random) -> Vec<Item> {
 }
 
 /// A set of events of the alphabet, the empty one too.
-fn events(alphabet: u32, random: &mut Random) -> Item {
+pub fn events(alphabet: u32, random: &mut Random) -> Item {
     let one = 1 << random.event_of(alphabet) & alphabet;
     Item::Events(match random.weighted(&[4, 2, 2, 2, 1]) {
         0 => one,

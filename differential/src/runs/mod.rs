@@ -6,6 +6,7 @@ mod expression;
 mod expression_tests;
 mod plans;
 
+use crate::hex::hex;
 use crate::random::Random;
 use exploration::{explore, Explored};
 use reference::{Kind, Plan};
@@ -132,10 +133,6 @@ impl Tally {
             self.passed_over
         )
     }
-}
-
-fn hex(bytes: &[u8]) -> String {
-    bytes.iter().map(|byte| format!("{byte:02x}")).collect()
 }
 
 #[cfg(test)]

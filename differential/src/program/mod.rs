@@ -1,0 +1,145 @@
+//! The built program on some hundreds of inputs: it ends with status 0, writes no errors, and prints the line of the
+//! independent implementation's answer, byte by byte, in whatever pieces its input comes.
+
+mod inputs;
+mod largest;
+mod line;
+mod process;
+mod tally;
+mod writing;
+
+use crate::hex::hex;
+use inputs::Input;
+use line::{answer, line, READ};
+use process::{start, Said, LIMIT};
+use std::path::Path;
+use tally::Tally;
+
+/// Starts the program on all inputs of this seed. The summary, or what is wrong and with which input.
+pub fn check_all(program: &Path, seed: u64) -> Result<String, String> {
+    check_with(seed, |input| {
+        start(program, &input.bytes, &input.writing, LIMIT)
+    })
+}
+
+fn check_with(
+    seed: u64,
+    program: impl Fn(&Input) -> Result<Said, String>,
+) -> Result<String, String> {
+    let mut tally = Tally::default();
+    for input in inputs::all(seed) {
+        let answer = answer(&input.bytes);
+        let expected = right(&line(&answer));
+        let came = program(&input);
+        if came.as_ref() != Ok(&expected) {
+            return Err(report(seed, &input, &expected, &came));
+        }
+        tally.add(&input, &answer);
+    }
+    match tally.missing()[..] {
+        [] => Ok(tally.summary()),
+        ref missing => Err(format!("program: never met: {}", missing.join("; "))),
+    }
+}
+
+/// What a program has to leave behind that prints this line.
+fn right(line: &str) -> Said {
+    Said {
+        status: Some(0),
+        output: line.as_bytes().to_vec(),
+        errors: Vec::new(),
+    }
+}
+
+fn report(seed: u64, input: &Input, expected: &Said, came: &Result<Said, String>) -> String {
+    let (plan, rest) = input.bytes.split_at(input.bytes.len().min(READ));
+    let more = match rest.len() {
+        0 => String::new(),
+        more => format!(" and {more} more"),
+    };
+    let came = match came {
+        Ok(said) => said.to_string(),
+        Err(fault) => fault.clone(),
+    };
+    format!(
+        "program, seed {seed}: {}\nbytes {}{more}\nwritten {}\nexpected: {expected}\ncame: {came}",
+        input.name,
+        hex(plan),
+        input.writing
+    )
+}
+
+#[cfg(test)]
+mod tests {
+    use super::*;
+
+    /// What a program leaves behind that takes these bytes for the plan.
+    fn judged(bytes: &[u8]) -> Said {
+        right(&line(&answer(bytes)))
+    }
+
+    /// What is said of a program that takes a part of the input for the plan.
+    fn found(part: impl Fn(&Input) -> Vec<u8>) -> String {
+        check_with(7, |input| Ok(judged(&part(input)))).unwrap_err()
+    }
+
+    #[test]
+    fn a_right_program_passes() {
+        for seed in 1..=5 {
+            let summary = check_with(seed, |input| Ok(judged(&input.bytes)));
+            assert!(summary.is_ok(), "{summary:?}");
+        }
+    }
+
+    #[test]
+    fn a_cut_is_found_out() {
+        for length in [0, 10, 21, 512, 1_024, 1_624, 1_625, 1_748] {
+            let cut = |input: &Input| input.bytes[..length.min(input.bytes.len())].to_vec();
+            let report = found(cut);
+            assert!(
+                report.contains("came: status 0"),
+                "cut at {length}: {report}"
+            );
+        }
+    }
+
+    #[test]
+    fn a_lost_first_byte_is_found_out() {
+        let report = found(|input| input.bytes.iter().skip(1).copied().collect());
+        assert!(report.contains("came: status 0"), "{report}");
+    }
+
+    #[test]
+    fn a_program_that_reads_one_piece_is_found_out() {
+        let report = found(|input| input.writing.pieces(&input.bytes)[0].to_vec());
+        assert!(report.contains("written in pieces"), "{report}");
+    }
+
+    #[test]
+    fn another_end_is_found_out() {
+        let changes: [fn(&mut Said); 5] = [
+            |said| said.status = Some(1),
+            |said| said.status = None,
+            |said| said.errors.push(b'\n'),
+            |said| said.output.push(b'\n'),
+            |said| said.output.truncate(said.output.len() - 1),
+        ];
+        for change in changes {
+            let program = |input: &Input| {
+                let mut said = judged(&input.bytes);
+                change(&mut said);
+                Ok(said)
+            };
+            assert!(check_with(7, program).is_err());
+        }
+    }
+
+    #[test]
+    fn a_report_tells_the_whole_case() {
+        let program = |_: &Input| Err("the program does not end".to_string());
+        let due = "program, seed 7: no byte\nbytes \nwritten at once\n\
+                   expected: status 0, output \"refused 1\\n\", errors \"\"\n\
+                   came: the program does not end";
+        assert_eq!(check_with(7, program).unwrap_err(), due);
+    }
+}

@@ -1,0 +1,104 @@
+//! What the inputs of the program were like and what they were answered: counted, and all of it asked for.
+
+use crate::program::inputs::Input;
+use crate::program::largest;
+use crate::program::line::{name, READ};
+use crate::program::writing::Writing;
+use reference::Answer;
+use std::collections::BTreeMap;
+
+/// The refusals that the program can give: its row is long enough for every plan.
+const REFUSALS: usize = 16;
+const VERDICTS: [&str; 2] = ["verified", "inconclusive"];
+
+const NO_BYTE: &str = "no byte";
+const ONE_BYTE: &str = "one byte";
+const ALL_READ: &str = "as many bytes as are read";
+const CUT: &str = "more bytes than are read";
+const IN_PIECES: &str = "in pieces";
+const OPEN: &str = "standard input open";
+
+#[derive(Default)]
+pub struct Tally {
+    inputs: usize,
+    met: BTreeMap<String, usize>,
+}
+
+impl Tally {
+    pub fn add(&mut self, input: &Input, answer: &Answer) {
+        self.inputs += 1;
+        for what in of(input, answer) {
+            *self.met.entry(what).or_default() += 1;
+        }
+    }
+
+    /// What was asked for and did not occur.
+    pub fn missing(&self) -> Vec<String> {
+        let asked = asked().into_iter();
+        asked.filter(|what| !self.met.contains_key(what)).collect()
+    }
+
+    pub fn summary(&self) -> String {
+        let count = |what: String| format!("{what}: {}", self.met.get(&what).unwrap_or(&0));
+        let counts: Vec<String> = asked().into_iter().map(count).collect();
+        format!("program: {} inputs; {}", self.inputs, counts.join(", "))
+    }
+}
+
+/// The verdict on a plan as long as one can be.
+fn on_the_largest(verdict: &str) -> String {
+    format!("{verdict} of {} bytes", largest::JUDGED)
+}
+
+/// What has to occur.
+fn asked() -> Vec<String> {
+    let mut asked: Vec<String> = (1..=REFUSALS)
+        .map(|number| format!("refused {number}"))
+        .collect();
+    asked.extend(VERDICTS.map(str::to_string));
+    asked.extend(VERDICTS.map(on_the_largest));
+    asked.extend([NO_BYTE, ONE_BYTE, ALL_READ, CUT, IN_PIECES, OPEN].map(str::to_string));
+    asked
+}
+
+/// What one input is an example of.
+fn of(input: &Input, answer: &Answer) -> Vec<String> {
+    let length = input.bytes.len();
+    let name = name(answer);
+    let judged = !matches!(answer, Answer::Refused(_));
+    let mut met = vec![name.clone()];
+    if judged && length == largest::JUDGED {
+        met.push(on_the_largest(&name));
+    }
+    let others = [
+        (NO_BYTE, length == 0),
+        (ONE_BYTE, length == 1),
+        (ALL_READ, length == READ),
+        (CUT, length > READ),
+        (IN_PIECES, input.writing.pieces(&input.bytes).len() > 1),
+        (OPEN, matches!(input.writing, Writing::Open)),
+    ];
+    let true_ones = others.into_iter().filter(|(_, is_so)| *is_so);
+    met.extend(true_ones.map(|(what, _)| what.to_string()));
+    met
+}
+
+#[cfg(test)]
+mod tests {
+    use super::*;
+
+    #[test]
+    fn what_did_not_occur_is_told() {
+        let mut tally = Tally::default();
+        assert_eq!(tally.missing(), asked());
+        let input = Input {
+            name: String::new(),
+            bytes: vec![0],
+            writing: Writing::Whole,
+        };
+        tally.add(&input, &Answer::Refused(1));
+        let mut left = asked();
+        left.retain(|what| what != "refused 1" && what != ONE_BYTE);
+        assert_eq!(tally.missing(), left);
+    }
+}
