@@ -18,7 +18,7 @@ use Rattle.plan.proofs.Legality.{legal}
 use Rattle.items.specs.Tables.{itemTable}
 use Rattle.items.specs.Postfix.{Postfix}
 use Rattle.items.proofs.Kept.{items-postfix, items-bytes}
-use Rattle.pattern.specs.Refusals.{rest, itemsOfPlan, badItems, readable, tooManyStates, acceptable, partUnder, patternPart, startUnder, partStart}
+use Rattle.pattern.specs.Refusals.{rest, itemsOfPlan, badItems, readable, tooManyStates, acceptable, partUnder, patternPart, startUnder, partStart, PartOf}
 use Rattle.pattern.specs.Reading.{answered, patternReadOf}
 use Rattle.pattern.proofs.Order.{readable-parts}
 
@@ -85,3 +85,10 @@ part-empty b = (
     go : (o : Option ℕ) → first acceptable b ≡ o → patternPart b ≡ [] → (n : ℕ) × (first acceptable b ≡ some n)
     go (some n) h e = (n, h)
     go none h e = absurd (rest-some b (both-none (first readable b) (cond (tooManyStates b) (some 16) none) (sym (acceptable-parts b) ∙ h) .0) (sym (part-is b none h) ∙ e))
+
+-- nothing is left open: two parts of one plan are the same bytes at the same place
+pub one-part : (b x y : List ℕ) (from p q : ℕ × ℕ) → PartOf b from x p → PartOf b from y q → (x ≡ y) × (p ≡ q)
+one-part b x y from p q s t = (
+  s .bytes ∙ sym (t .bytes),
+  λ i. ((s .block ∙ sym (t .block)) i, (s .offset ∙ sym (t .offset)) i),
+)
