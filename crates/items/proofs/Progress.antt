@@ -12,7 +12,7 @@ use Rattle.rows.specs.Rows.{padded}
 use Rattle.rows.proofs.Rows.{map-append, padded-push}
 use Rattle.plan.specs.declared.Outcome.the-variants.{Accepted, Refused}
 use Rattle.plan.specs.Checks.{first}
-use Rattle.plan.specs.Reading.{outcomeOf}
+use Rattle.plan.specs.Outcomes.{outcomeOf}
 use Rattle.plan.proofs.Ends.{outcome-refused, outcome-accepted}
 use Rattle.regex.specs.Items.{Item, arity, operands, push}
 use Rattle.regex.proofs.Operands.{push-none, push-more, push-length}

@@ -8,9 +8,11 @@ use Rattle.sections.specs.Layout.{headOf, patternAt}
 use Rattle.plan.specs.declared.Outcome.the-variants.{Accepted, Refused}
 use Rattle.plan.specs.Checks.{first, orElse}
 use Rattle.plan.specs.Refusals.{order}
-use Rattle.plan.specs.Reading as plan
+use Rattle.plan.specs.Outcomes.{outcomeOf}
+use Rattle.reader.specs.Reading as plan
 use Rattle.plan.proofs.Tests.{first-last}
-use Rattle.plan.proofs.Ends.{order-none, reading-is, outcome-refused, outcome-accepted}
+use Rattle.plan.proofs.Ends.{order-none, outcome-refused, outcome-accepted}
+use Rattle.reader.proofs.Answered.{reading-is}
 use Rattle.plan.proofs.Ranges.{framed}
 use Rattle.items.specs.Refusals.{itemsIn, itemsRefusal}
 use Rattle.items.specs.Tables as items
@@ -45,7 +47,7 @@ module _ (b : List ℕ) where
 
 -- ---- what the callees' answers tell
 
-plan-outcome : (o : Option ℕ) (b : List ℕ) → plan.answered o b .outcome ≡ plan.outcomeOf o
+plan-outcome : (o : Option ℕ) (b : List ℕ) → plan.answered o b .outcome ≡ outcomeOf o
 plan-outcome none b = refl
 plan-outcome (some n) b = refl
 
@@ -55,12 +57,12 @@ order-refused b n e = outcome-refused (first order b) n (sym (plan-outcome (firs
 pub order-accepted : (b : List ℕ) → plan.readingOf b .outcome ≡ Accepted → first order b ≡ none
 order-accepted b e = outcome-accepted (first order b) (sym (plan-outcome (first order b) b) ∙ ap (λ r. r .outcome) (sym (reading-is b (first order b) refl)) ∙ e)
 
-items-outcome : (o : Option ℕ) (l : List _) → items.answered o l .outcome ≡ plan.outcomeOf o
+items-outcome : (o : Option ℕ) (l : List _) → items.answered o l .outcome ≡ outcomeOf o
 items-outcome none l = refl
 items-outcome (some n) l = refl
 
 module _ (b : List ℕ) (alphabet n : ℕ) where
-  outcome-is : items.itemsReadOf b alphabet n .outcome ≡ plan.outcomeOf (itemsRefusal b alphabet n)
+  outcome-is : items.itemsReadOf b alphabet n .outcome ≡ outcomeOf (itemsRefusal b alphabet n)
   unfolding items.itemsReadOf
   outcome-is = items-outcome (itemsRefusal b alphabet n) (itemsIn b alphabet n)
 

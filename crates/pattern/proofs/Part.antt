@@ -11,7 +11,7 @@ use Rattle.sections.specs.Layout.{planOf}
 use Rattle.plan.specs.declared.Outcome.the-variants.{Accepted, Refused}
 use Rattle.plan.specs.Checks.{refuse, first, orElse}
 use Rattle.plan.specs.Refusals.{order}
-use Rattle.plan.specs.Reading.{outcomeOf}
+use Rattle.plan.specs.Outcomes.{outcomeOf}
 use Rattle.plan.proofs.Tests.{both-none, first-last}
 use Rattle.plan.proofs.Ends.{outcome-refused, outcome-accepted}
 use Rattle.plan.proofs.Legality.{legal}

@@ -3,7 +3,7 @@ use mathlib.Core.List.{List, []}
 use mathlib.Core.Option.{Option, none, some}
 use Prim.Native.Nat.{ℕ}
 use Rattle.plan.specs.Checks.{first}
-use Rattle.plan.specs.Reading as plan
+use Rattle.reader.specs.Reading as plan
 use Rattle.items.specs.Tables.{itemTable}
 use Rattle.pattern.specs.declared.PatternRead.{PatternRead}
 use Rattle.pattern.specs.Refusals.{itemsOfPlan, readable}

@@ -1,7 +1,7 @@
 // A plan with its pattern: the refusals 1 to 16, and the pattern's part of the plan.
 use items::Items;
 use plan::Outcome;
-use plan::Reading;
+use reader::Reading;
 ghost use mathlib.Core.Path.{_≡_};
 ghost use mathlib.Core.Bool.{not};
 ghost use denote.Ref.{ptr};
@@ -23,7 +23,7 @@ fn turned_down(n: u32) -> PatternRead
     ensures { λ r. ⌜ r ≡ refused n ⌝ }
 {
     PatternRead {
-        reading: plan::turned_down(n),
+        reading: reader::turned_down(n),
         items: items::blank(),
     }
 }
@@ -32,7 +32,7 @@ fn turned_down(n: u32) -> PatternRead
 pub fn read_pattern(plan: &[u8]) -> PatternRead
     ensures { λ r. ⌜ r ≡ patternReadOf (now (plan .entry)) ⌝ }
 {
-    let reading = plan::read_plan(plan);
+    let reading = reader::read_plan(plan);
     let found = reading.outcome;
     match found {
         Outcome::Refused(n) => turned_down(n),

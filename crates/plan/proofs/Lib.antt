@@ -1,6 +1,5 @@
--- Laws and cases that belong to no one function.
+-- Laws that belong to no one function.
 pub mod Tests
-pub mod Turns
 pub mod Nodes
 pub mod Framing
 pub mod Ranges

@@ -2,16 +2,15 @@
 use mathlib.Core.Path.{_≡_, refl, sym, ap, _∙_}
 use mathlib.Core.Logic.{⊎-elim}
 use mathlib.Core.List.{List, [], _∷_, _++_, append-assoc, append-nil}
-use Prim.Native.Nat.{ℕ, zero, suc, _+_, _-_, _≤_, _<_}
+use Prim.Native.Nat.{ℕ, zero, suc, _+_, _≤_, _<_}
 use native.Mathlib.Nat.{le-refl, eq-or-lt-of-le}
 use native.Mathlib.Numerals.{add-one}
 use native.Mathlib.Omega.{arith}
-use lib.ListN.{length, take, set, replicate, length-append, length-replicate, replicate-append-replicate}
-use lib.Seq.{take-at}
+use lib.ListN.{length, replicate, length-append, length-replicate}
 use Rattle.sections.specs.Plan.{Job}
-use Rattle.rows.specs.Rows.{row, padded, place}
+use Rattle.rows.specs.Rows.{row, place}
 use Rattle.sections.specs.Tables.{sizes}
-use Rattle.rows.proofs.Rows.{row-length, row-more, map-append, padded-push}
+use Rattle.rows.proofs.Rows.{row-length, row-more, map-append}
 use Rattle.plan.specs.Nodes.{owners, ownersFrom, total}
 
 -- ---- sums
@@ -81,21 +80,3 @@ owners-from-below j (x ∷ xs) k z h i =
 
 pub owners-below : (xs : List Job) (k : ℕ) → 0 < k → length xs ≤ k → (i : ℕ) → place (owners xs) i < k
 owners-below xs k z h i = owners-from-below 0 xs k z (omega arith) i
-
--- ---- filling the array of the nodes' jobs
-
-replicate-more : (k v : ℕ) → replicate k v ++ (v ∷ []) ≡ replicate (k + 1) v
-replicate-more k v = replicate-append-replicate k 1 v
-
--- one node more
-pub own-more : (xs : List ℕ) (at k v : ℕ) → length xs ≡ at → at + k < 256
-    → set (padded 256 (xs ++ replicate k v)) (at + k) v ≡ padded 256 (xs ++ replicate (k + 1) v)
-own-more xs at k v e h =
-    let l : length (xs ++ replicate k v) ≡ at + k = rw (length-append, length-replicate, e) in
-    padded-push 256 (xs ++ replicate k v) (at + k) v l h
-    ∙ ap (padded 256) (append-assoc xs (replicate k v) (v ∷ []) ∙ ap (λ ys. xs ++ ys) (replicate-more k v))
-
--- what stands before the nodes to come
-pub take-padded : (xs : List ℕ) (at : ℕ) → length xs ≡ at → take at (padded 256 xs) ≡ xs
-unfolding padded
-take-padded xs at e = take-at xs (replicate (256 - length xs) 0) at e

@@ -80,6 +80,13 @@ module _ {A : Type 0} (test : ℕ → A → Bool) where
       let l : 0 + length (row n g) ≡ n = omega (arith, row-length g n) in
       rw (row-more, any-append 0 (row n g) (g n ∷ []), l) (ap (λ b. anyNumbered test (row n g) || b) (or-false (test n (g n))))
 
+-- One turn of a loop that tests a section: the record i is tested, and then the first i + 1 are.
+pub any-turn : {A : Type 0} (test : ℕ → A → Bool) (g : ℕ → A) (i : ℕ) (found hit : Bool) → found ≡ anyNumbered test (row i g) → hit ≡ test i (g i)
+    → (found || hit) ≡ anyNumbered test (row (i + 1) g)
+any-turn test g i found hit e h =
+    let s : (found || hit) ≡ (anyNumbered test (row i g) || test i (g i)) = λ k. e k || h k in
+    s ∙ sym (any-row-more test i g)
+
 -- a test that does not ask for the number
 any-shift : {A : Type 0} (test : A → Bool) (k : ℕ) (xs : List A) → anyFrom (λ i x. test x) k xs ≡ any test xs
 unfolding anyFrom

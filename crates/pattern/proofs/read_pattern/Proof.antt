@@ -8,11 +8,11 @@ use native.Mathlib.Omega.{arith}
 use lib.ListN.{length, take, drop, length-drop}
 use lib.Seq.{take-all}
 use Rattle.sections.specs.Layout.{headOf, patternAt, planOf}
-use Rattle.plan.specs.declared.Reading.{Reading}
+use Rattle.reader.specs.declared.Reading.{Reading}
 use Rattle.plan.specs.Checks.{first}
 use Rattle.plan.specs.Refusals.{order}
-use Rattle.plan.specs.Reading as plan
-use Rattle.plan.proofs.Ends.{reading-is}
+use Rattle.reader.specs.Reading as plan
+use Rattle.reader.proofs.Answered.{reading-is}
 use Rattle.plan.proofs.Legality.{legal}
 use Rattle.items.specs.declared.ItemsRead.{ItemsRead}
 use Rattle.items.specs.Tables.{itemsReadOf}

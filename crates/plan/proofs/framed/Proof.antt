@@ -10,7 +10,7 @@ use lib.ListN.{length}
 use Rattle.fields.specs.Bits.{fieldAt}
 use Rattle.sections.specs.Layout.{headOf, endAt}
 use Rattle.plan.specs.Refusals.{tooShort, countsOutside, countsWrong, cutShort, filled}
-use Rattle.plan.specs.Reading.{outcomeOf}
+use Rattle.plan.specs.Outcomes.{outcomeOf}
 use Rattle.plan.proofs.Tests.{told}
 use Rattle.plan.proofs.Framing.{framing-1, framing-2, framing-3, framing-4, framing-none}
 use Rattle.plan.proofs.Ranges.{Ranged, ranged}

@@ -10,8 +10,7 @@ use Rattle.sections.specs.Tables.{sizes, jobIn}
 use Rattle.plan.specs.Checks.{any}
 use Rattle.plan.specs.Nodes.{total}
 use Rattle.plan.specs.Refusals.{sizesWrong}
-use Rattle.plan.proofs.Tests.{any-row-none}
-use Rattle.plan.proofs.Turns.{any-turn}
+use Rattle.plan.proofs.Tests.{any-row-none, any-turn}
 use Rattle.plan.proofs.Nodes.{total-none, total-more}
 use Rattle.plan.proofs.sizes_wrong.Statement.{statement}
 use Rattle.plan.proofs.sizes_wrong.Tie as tie

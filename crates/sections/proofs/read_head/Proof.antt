@@ -28,7 +28,16 @@ field-requires-8 : tie.Need-field-requires-8
 field-requires-8 c κs = search needs
 
 returns : tie.Need-returns
-returns c = cc
+returns c = λ i. record {
+  jobs = c .before .before .before .before .before .before .before .field .ensures i;
+  nodes = c .before .before .before .before .before .before .field2 .ensures i;
+  steps = c .before .before .before .before .before .field3 .ensures i;
+  calls = c .before .before .before .before .field4 .ensures i;
+  accepts = c .before .before .before .field5 .ensures i;
+  channels = c .before .before .field6 .ensures i;
+  kind = c .before .field7 .ensures i;
+  items = c .field8 .ensures i;
+}
 
 pub read-head-spec : {M : Type 1} → statement M
 read-head-spec =

@@ -4,12 +4,12 @@ use Prim.Native.Nat.{ℕ, _-_, _≤_}
 use native.Mathlib.Omega.{arith}
 use Rattle.rows.specs.Rows.{row, place}
 use Rattle.sections.specs.Tables.{jobIn}
 use Rattle.plan.specs.Checks.{anyNumbered}
 use Rattle.plan.specs.Refusals.{stray}
-use Rattle.plan.proofs.Tests.{any-row-none}
-use Rattle.plan.proofs.Turns.{any-turn, stray-read}
-use Rattle.plan.proofs.any_stray.Statement.{statement}
-use Rattle.plan.proofs.any_stray.Tie as tie
+use Rattle.plan.proofs.Tests.{any-row-none, any-turn}
+use Rattle.ends.proofs.Turns.{stray-read}
+use Rattle.ends.proofs.any_stray.Statement.{statement}
+use Rattle.ends.proofs.any_stray.Tie as tie
 
 abbrev Inv-loop : tie.InvT-loop
 Inv-loop nodes owner jobs count found₀ i₀ found i = (i ≤ count) × (found ≡ anyNumbered (stray nodes (place owner)) (row i (jobIn jobs)))

@@ -4,18 +4,20 @@ use mathlib.Core.Bool.{false, _||_}
 use mathlib.Core.List.{List}
 use Prim.Native.Nat.{ℕ}
 use Rattle.sections.specs.Plan.{Plan}
-use Rattle.plan.specs.declared.Bounds.{Bounds}
-use Rattle.plan.specs.declared.Faults.{Faults}
+use Rattle.ends.specs.declared.Bounds.{Bounds}
+use Rattle.ends.specs.declared.Faults.{Faults}
 use Rattle.sections.specs.Tables.{planIn}
 use Rattle.rows.proofs.Rows.{row-length}
 use Rattle.plan.specs.Refusals.{strayEnds, splitEnds, exitLeft, noChannel}
-use Rattle.plan.specs.Bounds.{OwnersBelow, boundsOf}
-use Rattle.plan.specs.Reading.{outcomeOf}
+use Rattle.plan.specs.Bounds.{OwnersBelow}
+use Rattle.ends.specs.Faults.{boundsOf}
+use Rattle.plan.specs.Outcomes.{outcomeOf}
 use Rattle.plan.proofs.Tests.{told}
-use Rattle.plan.proofs.Ends.{ends-6, ends-7, ends-8, ends-9, ends-none, stray-on, apart-on, leaving-on, unknown-on, owners-on, boundsIn, bounds-kept}
+use Rattle.plan.proofs.Ends.{ends-6, ends-7, ends-8, ends-9, ends-none}
+use Rattle.ends.proofs.Arrays.{stray-on, apart-on, leaving-on, unknown-on, owners-on, boundsIn, bounds-kept}
 use borrow.Author.Needs.{needs}
-use Rattle.plan.proofs.bounded.Statement.{statement}
-use Rattle.plan.proofs.bounded.Tie as tie
+use Rattle.ends.proofs.bounded.Statement.{statement}
+use Rattle.ends.proofs.bounded.Tie as tie
 
 -- the places that the answers go back to, from the last of the three sections
 abbrev start : tie.After-find-faults3 → tie.Start

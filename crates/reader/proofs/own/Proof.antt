@@ -5,9 +5,9 @@ use Prim.Native.Nat.{ℕ, _-_, _≤_}
 use native.Mathlib.Omega.{arith}
 use lib.ListN.{take, replicate}
 use Rattle.rows.specs.Rows.{padded}
-use Rattle.plan.proofs.Nodes.{own-more}
-use Rattle.plan.proofs.own.Statement.{statement}
-use Rattle.plan.proofs.own.Tie as tie
+use Rattle.reader.proofs.Filling.{own-more}
+use Rattle.reader.proofs.own.Statement.{statement}
+use Rattle.reader.proofs.own.Tie as tie
 
 abbrev Inv-loop : tie.InvT-loop
 Inv-loop owner₀ at size job k₀ owner k = (k ≤ size) × (owner ≡ padded 256 (take at owner₀ ++ replicate k job))

@@ -6,17 +6,11 @@ use Rattle.sections.specs.Plan.{nothing}
 use Rattle.sections.specs.Layout.{headOf, patternAt, planOf}
 use Rattle.rows.specs.Rows.{padded}
 use Rattle.sections.specs.Tables.{decodedOf}
-use Rattle.plan.specs.declared.Outcome.{Outcome}
 use Rattle.plan.specs.declared.Outcome.the-variants.{Accepted, Refused}
-use Rattle.plan.specs.declared.Reading.{Reading}
 use Rattle.plan.specs.Checks.{first}
 use Rattle.plan.specs.Nodes.{owners}
 use Rattle.plan.specs.Refusals.{order}
-
--- 01's number for each case: a refusal has its own, acceptance none
-abbrev pub outcomeOf : Option ℕ → Outcome
-outcomeOf none = Accepted
-outcomeOf (some n) = Refused n
+use Rattle.reader.specs.declared.Reading.{Reading}
 
 -- an accepted plan, with the job of each node and the byte where its pattern starts
 abbrev pub accepted : List ℕ → Reading

@@ -1,10 +1,10 @@
 -- `turned_down` answers the number and nothing else. Assumes nothing.
 use mathlib.Core.List.{[]}
 use Rattle.rows.specs.Rows.{padded}
 use Rattle.plan.specs.declared.Outcome.the-variants.{Refused}
 use borrow.Author.Needs.{needs}
-use Rattle.plan.proofs.turned_down.Statement.{statement}
-use Rattle.plan.proofs.turned_down.Tie as tie
+use Rattle.reader.proofs.turned_down.Statement.{statement}
+use Rattle.reader.proofs.turned_down.Tie as tie
 
 blank-requires : tie.Need-blank-requires
 blank-requires c κs = search needs

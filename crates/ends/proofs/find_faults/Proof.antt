@@ -7,14 +7,14 @@ use Rattle.sections.specs.declared.Arcs.{Arcs}
 use Rattle.sections.specs.Plan.{Arc}
 use Rattle.rows.specs.Rows.{row, place}
 use Rattle.sections.specs.Tables.{arcIn}
-use Rattle.plan.specs.declared.Faults.{Faults}
+use Rattle.ends.specs.declared.Faults.{Faults}
 use Rattle.plan.specs.Checks.{any}
 use Rattle.plan.specs.Refusals.{apart as apart-test, leaving as leaving-test, unknown as unknown-test}
-use Rattle.plan.specs.Bounds.{faultsOf}
-use Rattle.plan.proofs.Tests.{any-row-none}
-use Rattle.plan.proofs.Turns.{any-turn, apart-read, leaving-read, unknown-read}
-use Rattle.plan.proofs.find_faults.Statement.{statement}
-use Rattle.plan.proofs.find_faults.Tie as tie
+use Rattle.ends.specs.Faults.{faultsOf}
+use Rattle.plan.proofs.Tests.{any-row-none, any-turn}
+use Rattle.ends.proofs.Turns.{apart-read, leaving-read, unknown-read}
+use Rattle.ends.proofs.find_faults.Statement.{statement}
+use Rattle.ends.proofs.find_faults.Tie as tie
 
 abbrev Inv-loop : tie.InvT-loop
 Inv-loop owner g arcs count nodes channels apart₀ leaving₀ unknown₀ i₀ apart leaving unknown i =

@@ -1,12 +1,13 @@
 -- `read_plan` answers the first refusal of all, or the plan. Assumes nothing.
 use mathlib.Core.Path.{_≡_, sym, _∙_}
 use mathlib.Core.Option.{none}
 use Rattle.plan.specs.Checks.{first}
 use Rattle.plan.specs.Refusals.{framing}
-use Rattle.plan.proofs.Ends.{order-refused, order-past, reading-is, outcome-refused, outcome-accepted}
+use Rattle.plan.proofs.Ends.{order-refused, order-past, outcome-refused, outcome-accepted}
+use Rattle.reader.proofs.Answered.{reading-is}
 use borrow.Author.Needs.{needs}
-use Rattle.plan.proofs.read_plan.Statement.{statement}
-use Rattle.plan.proofs.read_plan.Tie as tie
+use Rattle.reader.proofs.read_plan.Statement.{statement}
+use Rattle.reader.proofs.read_plan.Tie as tie
 
 -- the bytes passed refusals 1 to 4
 passed : (c : tie.After-enum-told) → first framing (c .before .before .before .before .args .plan .now) ≡ none

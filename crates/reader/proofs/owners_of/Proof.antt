@@ -6,10 +6,11 @@ use native.Mathlib.Omega.{arith}
 use lib.ListN.{length, take, replicate}
 use Rattle.rows.specs.Rows.{row, padded}
 use Rattle.sections.specs.Tables.{sizes, jobIn}
 use Rattle.plan.specs.Nodes.{owners, ownersFrom, total}
-use Rattle.plan.proofs.Nodes.{total-none, total-more, total-le, owners-more, owners-total, take-padded}
-use Rattle.plan.proofs.owners_of.Statement.{statement}
-use Rattle.plan.proofs.owners_of.Tie as tie
+use Rattle.plan.proofs.Nodes.{total-none, total-more, total-le, owners-more, owners-total}
+use Rattle.reader.proofs.Filling.{take-padded}
+use Rattle.reader.proofs.owners_of.Statement.{statement}
+use Rattle.reader.proofs.owners_of.Tie as tie
 
 abbrev Inv-loop : tie.InvT-loop
 Inv-loop jobs count owner₀ at₀ i₀ owner at i = (i ≤ count) × (owner ≡ padded 256 (owners (row i (jobIn jobs)))) × (at ≡ total (sizes (row i (jobIn jobs))))

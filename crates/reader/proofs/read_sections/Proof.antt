@@ -9,19 +9,21 @@ use Rattle.sections.specs.declared.Decoded.{Decoded}
 use Rattle.sections.specs.Layout.{headOf, endAt, patternAt, planOf}
 use Rattle.rows.specs.Rows.{padded}
 use Rattle.sections.specs.Tables.{decodedOf, planIn, jobsIn}
 use Rattle.plan.specs.declared.Outcome.the-variants.{Accepted}
-use Rattle.plan.specs.declared.Reading.{Reading}
+use Rattle.reader.specs.declared.Reading.{Reading}
 use Rattle.plan.specs.Checks.{first}
 use Rattle.plan.specs.Nodes.{owners}
 use Rattle.plan.specs.Refusals.{wrongSizes, ends, shape}
 use Rattle.plan.specs.Bounds.{Tabled}
-use Rattle.plan.specs.Reading.{outcomeOf, accepted, answered}
+use Rattle.plan.specs.Outcomes.{outcomeOf}
+use Rattle.reader.specs.Reading.{accepted, answered}
 use Rattle.plan.proofs.Tests.{told}
 use Rattle.plan.proofs.Ranges.{Ranged, Framed, framed, readable}
-use Rattle.plan.proofs.Ends.{shape-5, shape-past, sizes-right, outcome-refused, outcome-accepted, plan-in, read-under, nodes-read, tabled}
+use Rattle.plan.proofs.Ends.{shape-5, shape-past, sizes-right, outcome-refused, outcome-accepted}
+use Rattle.reader.proofs.Answered.{plan-in, read-under, nodes-read, tabled}
 use borrow.Author.Needs.{needs}
-use Rattle.plan.proofs.read_sections.Statement.{statement}
-use Rattle.plan.proofs.read_sections.Tie as tie
+use Rattle.reader.proofs.read_sections.Statement.{statement}
+use Rattle.reader.proofs.read_sections.Tie as tie
 
 -- the bytes, and the places that the answers go back to
 abbrev bytes : tie.After-decode → List ℕ

@@ -1,26 +1,15 @@
--- One turn of the loops that test a section: the record i is tested, and then the first i + 1 are. Assumes nothing.
-use mathlib.Core.Path.{_≡_, sym, ap, _∙_}
-use mathlib.Core.Bool.{Bool, _&&_, _||_, not}
+-- The tests of a section's record, from what a turn of the loop read. Assumes nothing.
+use mathlib.Core.Path.{_≡_, ap, _∙_}
+use mathlib.Core.Bool.{_&&_, not}
 use mathlib.Core.List.{List}
-use Prim.Native.Nat.{ℕ, _+_}
+use Prim.Native.Nat.{ℕ}
 use lib.Dec.{ltb, leb, eqb}
 use Rattle.sections.specs.declared.Jobs.{Jobs}
 use Rattle.sections.specs.declared.Arcs.{Arcs}
-use Rattle.rows.specs.Rows.{row, place}
+use Rattle.rows.specs.Rows.{place}
 use Rattle.sections.specs.Tables.{jobIn, arcIn}
-use Rattle.plan.specs.declared.Bounds.{Bounds}
-use Rattle.plan.specs.Checks.{anyNumbered}
 use Rattle.plan.specs.Refusals.{stray, apart, leaving, unknown}
-use Rattle.plan.proofs.Tests.{any-row-more}
-
--- the same for every kind of record
-pub any-turn : {A : Type 0} (test : ℕ → A → Bool) (g : ℕ → A) (i : ℕ) (found hit : Bool) → found ≡ anyNumbered test (row i g) → hit ≡ test i (g i)
-    → (found || hit) ≡ anyNumbered test (row (i + 1) g)
-any-turn test g i found hit e h =
-    let s : (found || hit) ≡ (anyNumbered test (row i g) || test i (g i)) = λ k. e k || h k in
-    s ∙ sym (any-row-more test i g)
-
--- ---- the tests, from what was read
+use Rattle.ends.specs.declared.Bounds.{Bounds}
 
 -- by the job of each node
 module _ (owner : List ℕ) where

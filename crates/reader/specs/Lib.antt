@@ -1,0 +1,2 @@
+-- What the reader of a plan answers.
+pub mod Reading
