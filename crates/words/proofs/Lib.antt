@@ -1,0 +1,2 @@
+-- Laws of arcs as words.
+mod Words
