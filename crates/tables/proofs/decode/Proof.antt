@@ -1,9 +1,9 @@
 -- `decode` reads each section at its place. Assumes nothing.
 use native.Mathlib.Omega.{arith}
 use borrow.Author.Needs.{needs}
-use Rattle.sections.proofs.Rows.{sections-read}
-use Rattle.sections.proofs.decode.Statement.{statement}
-use Rattle.sections.proofs.decode.Tie as tie
+use Rattle.tables.proofs.Rows.{sections-read}
+use Rattle.tables.proofs.decode.Statement.{statement}
+use Rattle.tables.proofs.decode.Tie as tie
 
 mul-steps-at : tie.Need-mul-steps-at
 mul-steps-at c = search needs

@@ -4,15 +4,15 @@ use Prim.Native.Nat.{ℕ, _+_, _-_, _*_, _/_, _%_, _^_, _≤_, _<_}
 use native.Mathlib.Omega.{arith}
 use lib.Pow.{pow-pos, pow-mono}
 use Rattle.fields.proofs.Laws.{field-lt, shifted}
 use Rattle.sections.specs.declared.Arcs.{Arcs}
 use Rattle.sections.specs.Plan.{Arc}
 use Rattle.rows.specs.Rows.{row, padded}
 use Rattle.sections.specs.Layout.{arcAt, arcsAt}
 use Rattle.sections.specs.Tables.{froms, tos, labels}
 use Rattle.rows.proofs.Rows.{column-more}
-use Rattle.sections.proofs.Rows.{stride, arc-parts, arcs-read}
-use Rattle.sections.proofs.read_arcs.Statement.{statement}
-use Rattle.sections.proofs.read_arcs.Tie as tie
+use Rattle.tables.proofs.Rows.{stride, arc-parts, arcs-read}
+use Rattle.tables.proofs.read_arcs.Statement.{statement}
+use Rattle.tables.proofs.read_arcs.Tie as tie
 
 abbrev Inv-loop : tie.InvT-loop
 Inv-loop plan width at count arcs₀ i₀ arcs i = (i ≤ count) × (arcs .from ≡ padded 256 (froms (arcsAt plan width at i))) × (arcs .to ≡ padded 256 (tos (arcsAt plan width at i))) × (arcs .label ≡ padded 256 (labels (arcsAt plan width at i)))

@@ -2,10 +2,10 @@
 use borrow.Author.Needs.{needs}
 use mathlib.Core.Path.{_≡_, refl}
 use Prim.Native.Nat.{ℕ, zero, suc}
 use Rattle.sections.specs.declared.Kind.the-variants.{None}
 use Rattle.sections.specs.Plan.{kindOf}
-use Rattle.sections.proofs.kind_of.Statement.{statement}
-use Rattle.sections.proofs.kind_of.Tie as tie
+use Rattle.tables.proofs.kind_of.Statement.{statement}
+use Rattle.tables.proofs.kind_of.Tie as tie
 
 not-zero : (n : ℕ) → (n ≡ 0 → ⊥) → None ≡ kindOf n
 not-zero zero h = absurd (h refl)

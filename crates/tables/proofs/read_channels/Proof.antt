@@ -6,9 +6,9 @@ use Rattle.fields.specs.Bits.{fieldAt}
 use Rattle.fields.proofs.Laws.{field-lt}
 use Rattle.rows.specs.Rows.{row, padded}
 use Rattle.rows.proofs.Rows.{padded-row-more}
-use Rattle.sections.proofs.Rows.{channels-read}
-use Rattle.sections.proofs.read_channels.Statement.{statement}
-use Rattle.sections.proofs.read_channels.Tie as tie
+use Rattle.tables.proofs.Rows.{channels-read}
+use Rattle.tables.proofs.read_channels.Statement.{statement}
+use Rattle.tables.proofs.read_channels.Tie as tie
 
 abbrev Inv-loop : tie.InvT-loop
 Inv-loop plan at count event₀ i₀ event i = (i ≤ count) × (event ≡ padded 64 (row i (λ (k : ℕ). fieldAt plan (at + 5 * k) 5)))

@@ -3,14 +3,14 @@ use mathlib.Core.Path.{_≡_, refl}
 use Prim.Native.Nat.{ℕ, _+_, _-_, _*_, _≤_, _<_}
 use native.Mathlib.Omega.{arith}
 use Rattle.fields.proofs.Laws.{field-lt}
 use Rattle.sections.specs.Plan.{Job}
 use Rattle.rows.specs.Rows.{row, padded}
 use Rattle.sections.specs.Layout.{jobAt}
 use Rattle.sections.specs.Tables.{sizes, entries, exits}
 use Rattle.rows.proofs.Rows.{column-more}
-use Rattle.sections.proofs.Rows.{jobs-read}
-use Rattle.sections.proofs.read_jobs.Statement.{statement}
-use Rattle.sections.proofs.read_jobs.Tie as tie
+use Rattle.tables.proofs.Rows.{jobs-read}
+use Rattle.tables.proofs.read_jobs.Statement.{statement}
+use Rattle.tables.proofs.read_jobs.Tie as tie
 
 abbrev Inv-loop : tie.InvT-loop
 Inv-loop plan at count size₀ entry₀ exit₀ i₀ size entry exit i = (i ≤ count) × (size ≡ padded 16 (sizes (row i (λ (k : ℕ). jobAt plan (at + 25 * k))))) × (entry ≡ padded 16 (entries (row i (λ (k : ℕ). jobAt plan (at + 25 * k))))) × (exit ≡ padded 16 (exits (row i (λ (k : ℕ). jobAt plan (at + 25 * k)))))
