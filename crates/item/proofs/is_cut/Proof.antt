@@ -7,8 +7,8 @@ use borrow.Author.Tests.{ltb-true, ltb-false, lt-ltb, le-ltb}
 use lib.Dec.{ltb}
 use lib.ListN.{length}
 use borrow.Author.Needs.{needs}
-use Rattle.items.proofs.is_cut.Statement.{statement}
-use Rattle.items.proofs.is_cut.Tie as tie
+use Rattle.item.proofs.is_cut.Statement.{statement}
+use Rattle.item.proofs.is_cut.Tie as tie
 
 add-result : tie.Need-add-result
 add-result c = search needs

@@ -9,8 +9,8 @@ use borrow.Author.Tests.{eqb-true, ltb-false, le-ltb}
 use lib.Dec.{ltb, eqb}
 use Rattle.plan.specs.Checks.{orElse, first}
 use Rattle.regex.specs.Items.{Item, empty, events, sequence, choice, repeat, arity}
-use Rattle.items.specs.Refusals.{cut, kindAt, setAt, itemOf, itemAt, width, strange, faults}
-use Rattle.items.specs.Tables.{kindOf, setOf}
+use Rattle.item.specs.Faults.{cut, kindAt, setAt, itemOf, itemAt, width, strange, faults}
+use Rattle.item.specs.Found.{kindOf, setOf}
 
 -- ---- items and their kinds
 

@@ -2,8 +2,8 @@
 use mathlib.Core.Path.{sym, ap}
 use mathlib.Core.Bool.{Bool, cond}
 use borrow.Author.Tests.{eq-eqb, ne-eqb}
-use Rattle.items.proofs.width_of.Statement.{statement}
-use Rattle.items.proofs.width_of.Tie as tie
+use Rattle.item.proofs.width_of.Statement.{statement}
+use Rattle.item.proofs.width_of.Tie as tie
 
 returns : tie.Need-returns
 returns c = sym (ap (λ (t : Bool). cond t 34 3) (eq-eqb _ _ (c .if1 .taken)))

@@ -1,10 +1,10 @@
 -- `arity_of` tells how many operands an item takes. Assumes nothing.
 use mathlib.Core.Path.{sym}
 use native.Mathlib.Omega.{arith}
-use Rattle.items.proofs.Faults.{arity-below, arity-both}
+use Rattle.item.proofs.Faults.{arity-below, arity-both}
 use borrow.Author.Needs.{needs}
-use Rattle.items.proofs.arity_of.Statement.{statement}
-use Rattle.items.proofs.arity_of.Tie as tie
+use Rattle.item.proofs.arity_of.Statement.{statement}
+use Rattle.item.proofs.arity_of.Tie as tie
 
 returns : tie.Need-returns
 returns c = search needs

@@ -12,13 +12,13 @@ use Rattle.plan.specs.declared.Outcome.the-variants.{Accepted}
 use Rattle.plan.specs.Checks.{first}
 use Rattle.plan.proofs.Tests.{told}
 use Rattle.regex.specs.Items.{empty, events}
-use Rattle.items.specs.declared.Found.{Found}
-use Rattle.items.specs.Refusals.{cut, kindAt, setAt, itemAt, strange, faults}
-use Rattle.items.specs.Tables.{foundAs, found}
-use Rattle.items.proofs.Faults.{kind-cut, kind-unknown, set-cut, set-strange, set-fine, set-is, operands-short, operands-fine, kind-is}
+use Rattle.item.specs.declared.Found.{Found}
+use Rattle.item.specs.Faults.{cut, kindAt, setAt, itemAt, strange, faults}
+use Rattle.item.specs.Found.{foundAs, found}
+use Rattle.item.proofs.Faults.{kind-cut, kind-unknown, set-cut, set-strange, set-fine, set-is, operands-short, operands-fine, kind-is}
 use borrow.Author.Needs.{needs}
-use Rattle.items.proofs.item_at.Statement.{statement}
-use Rattle.items.proofs.item_at.Tie as tie
+use Rattle.item.proofs.item_at.Statement.{statement}
+use Rattle.item.proofs.item_at.Tie as tie
 
 -- the arguments, at the place behind the first test
 abbrev bytes : tie.Else1 → List ℕ
