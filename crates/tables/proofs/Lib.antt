@@ -1,2 +1,2 @@
 -- Laws of rows and tables that belong to no one function.
-mod Rows
+pub mod Rows
