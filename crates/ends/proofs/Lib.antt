@@ -1,3 +1,3 @@
 -- Laws of the tests of refusals 6 to 9.
-mod Turns
-mod Arrays
+pub mod Turns
+pub mod Arrays

@@ -14,10 +14,12 @@ use Rattle.rows.proofs.Rows.{column-at, row-take, row-places}
 use Rattle.plan.specs.Checks.{refuse, first}
 use Rattle.plan.proofs.Tests.{or-none, first-none}
 use Rattle.regex.specs.Items.{Item, empty, arity, operands}
-use Rattle.items.specs.Refusals.{Spot, Read, faulty, upTo, itemAt, itemOf, faults, pointOf, depth, judged, oneMore, notOne, bytes, trailing, leftovers, refusalOf, itemsOf, read, itemsIn, itemsRefusal}
-use Rattle.items.specs.Tables.{kindOf, setOf, itemTable, itemOn, itemsOn}
+use Rattle.item.specs.Faults.{itemAt, itemOf, faults}
+use Rattle.items.specs.Refusals.{Spot, Read, faulty, upTo, pointOf, depth, judged, oneMore, notOne, bytes, trailing, leftovers, refusalOf, itemsOf, read, itemsIn, itemsRefusal}
+use Rattle.item.specs.Found.{kindOf, setOf}
+use Rattle.items.specs.Tables.{itemTable, itemOn, itemsOn}
 use Rattle.items.specs.Postfix.{Postfix}
-use Rattle.items.proofs.Faults.{item-known}
+use Rattle.item.proofs.Faults.{item-known}
 use Rattle.items.proofs.Progress.{enough, Bounds, read-bounds}
 
 -- ---- tables

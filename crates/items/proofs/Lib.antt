@@ -1,6 +1,5 @@
-pub mod Faults
+-- Laws of items that belong to no one function, and patterns from their items.
 pub mod Progress
 pub mod Answers
 pub mod Kept
-pub mod Alphabet
 pub mod Cases

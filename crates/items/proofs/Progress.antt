@@ -16,11 +16,13 @@ use Rattle.plan.specs.Outcomes.{outcomeOf}
 use Rattle.plan.proofs.Ends.{outcome-refused, outcome-accepted}
 use Rattle.regex.specs.Items.{Item, arity, operands, push}
 use Rattle.regex.proofs.Operands.{push-none, push-more, push-length}
-use Rattle.items.specs.declared.Found.{Found}
+use Rattle.item.specs.declared.Found.{Found}
 use Rattle.items.specs.declared.Scan.{Scan}
-use Rattle.items.specs.Refusals.{Spot, Read, faulty, upTo, kindAt, itemOf, itemAt, width, faults, depth, pointOf, past, judged, oneMore, read}
-use Rattle.items.specs.Tables.{kindOf, setOf, foundAs, found, scanOf}
-use Rattle.items.proofs.Faults.{arity-kind, kind-at-most, kind-item, width-item, faultless}
+use Rattle.item.specs.Faults.{kindAt, itemOf, itemAt, width, faults}
+use Rattle.items.specs.Refusals.{Spot, Read, faulty, upTo, depth, pointOf, past, judged, oneMore, read}
+use Rattle.item.specs.Found.{kindOf, setOf, foundAs, found}
+use Rattle.items.specs.Tables.{scanOf}
+use Rattle.item.proofs.Faults.{arity-kind, kind-at-most, kind-item, width-item, faultless}
 
 -- ---- what the code keeps
 

@@ -12,7 +12,7 @@ use Rattle.regex.specs.Items.{Item, empty, events, sequence, choice, repeat, ar
 use Rattle.regex.specs.Positions.{size}
 use Rattle.regex.specs.Stack.{free, Operand as Masks, masks, operandAt, follows, holdings, bothOf, eitherOf, manyOf}
 use Rattle.regex.proofs.Stack as stack
-use Rattle.items.specs.Refusals.{itemOf}
+use Rattle.item.specs.Faults.{itemOf}
 use Rattle.positions.specs.declared.Operand.{Operand}
 use Rattle.positions.specs.declared.Made.{Made}
 use Rattle.positions.specs.Making.{nothing, operandOf, made, gains}

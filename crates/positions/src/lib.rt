@@ -6,7 +6,7 @@ ghost use Prim.Native.Nat.{ℕ};
 ghost use lib.ListN.{length};
 ghost use Rattle.rows.specs.Rows.{row, place};
 ghost use Rattle.regex.specs.Items.{empty, events, sequence, choice, repeat, arity, patternOf};
-ghost use Rattle.items.specs.Refusals.{itemOf};
+ghost use Rattle.item.specs.Faults.{itemOf};
 ghost use Rattle.items.specs.Tables.{itemsOn};
 ghost use Rattle.items.specs.Postfix.{Postfix};
 ghost use Rattle.positions.specs.Tables.{positionTable};

@@ -1,3 +1,3 @@
 -- Laws that belong to no one function.
 pub mod Answered
-mod Filling
+pub mod Filling

@@ -71,7 +71,7 @@ fn read_sections(plan: &[u8]) -> Reading
     ensures { λ r. ⌜ r ≡ answered (first shape (planOf (now (plan .entry)))) (now (plan .entry)) ⌝ }
 {
     let h = sections::read_head(plan);
-    let d = sections::decode(plan, h);
+    let d = tables::decode(plan, h);
     let jobs = d.jobs;
     if plan::sizes_wrong(d.nodes, jobs) {
         return turned_down(5);

@@ -17,7 +17,8 @@ use Rattle.plan.proofs.Cases.{P, Fields, packed, job, step, channel, link, agre
 use Rattle.regex.specs.Items.{pushAll}
 use Rattle.regex.specs.Positions as positions
 use Rattle.numbering.specs.Numbering.{index, collect, build, states}
-use Rattle.items.specs.Refusals.{itemAt, read, itemsRefusal}
+use Rattle.item.specs.Faults.{itemAt}
+use Rattle.items.specs.Refusals.{read, itemsRefusal}
 use Rattle.items.proofs.Cases.{kind, one}
 use Rattle.automaton.specs.Automaton.{watchedBelow, statesOf, tableOf, acceptingBelow}
 use Rattle.pattern.proofs.Cases.{two-jobs, distance}

@@ -6,9 +6,10 @@ use native.Mathlib.Omega.{arith}
 use lib.ListN.{length, set}
 use Rattle.regex.specs.Items.{arity}
 use Rattle.regex.proofs.Operands.{push-none}
-use Rattle.items.specs.Refusals.{itemOf, read}
+use Rattle.item.specs.Faults.{itemOf}
+use Rattle.items.specs.Refusals.{read}
 use Rattle.items.specs.Tables.{scanOf}
-use Rattle.items.proofs.Faults.{width-item}
+use Rattle.item.proofs.Faults.{width-item}
 use Rattle.items.proofs.Progress.{scanAt, added, faulty-later, near, turn-refused, turn-known, turn-accepted}
 use borrow.Author.Needs.{needs}
 use Rattle.items.proofs.scan_items.Statement.{statement}

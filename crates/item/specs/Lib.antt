@@ -1,0 +1,3 @@
+-- One item of a pattern.
+pub mod Faults
+pub mod Found
