@@ -11,7 +11,8 @@ use Rattle.sections.specs.Layout.{planOf}
 use Rattle.plan.specs.Checks.{Check, refuse, first, orElse}
 use Rattle.plan.specs.Refusals.{tooShort, countsWrong, cutShort, filled, wrongSizes, strayEnds, splitEnds, exitLeft, noChannel, framing, shape, order}
 use Rattle.plan.proofs.Tests.{first-append, first-last, first-said}
-use Rattle.items.specs.Refusals.{Point, cut, kindAt, setAt, itemAt, isEvents, strange, notOne, trailing, Read, faulty, upTo, Spot, pointOf, faults, judged, oneMore, read, leftovers, refusalOf, itemsRefusal}
+use Rattle.item.specs.Faults.{Point, cut, kindAt, setAt, itemAt, isEvents, strange, faults}
+use Rattle.items.specs.Refusals.{Read, faulty, upTo, Spot, pointOf, judged, oneMore, read, notOne, trailing, leftovers, refusalOf, itemsRefusal}
 use Rattle.pattern.specs.Refusals.{rest, badItems, readable, tooManyStates, acceptable}
 use Rattle.verifier.specs.Order.{shortRow, judgeable}
 
