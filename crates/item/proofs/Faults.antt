@@ -50,13 +50,6 @@ arity-kind sequence = refl
 arity-kind choice = refl
 arity-kind repeat = refl
 
-pub kind-at-most : (i : Item) → kindOf i ≤ 4
-kind-at-most empty = omega arith
-kind-at-most (events m) = omega arith
-kind-at-most sequence = omega arith
-kind-at-most choice = omega arith
-kind-at-most repeat = omega arith
-
 pub arity-below : (k : ℕ) → k < 2 → arity (itemOf k 0) ≡ 0
 arity-below zero h = refl
 arity-below (suc zero) h = refl
@@ -68,6 +61,13 @@ arity-both (suc zero) g h = absurd (omega arith)
 arity-both (suc (suc zero)) g h = refl
 arity-both (suc (suc (suc zero))) g h = refl
 arity-both (suc (suc (suc (suc k)))) g h = absurd (omega arith)
+
+pub arity-star : (k : ℕ) → 4 ≤ k → arity (itemOf k 0) ≡ 1
+arity-star zero h = absurd (omega arith)
+arity-star (suc zero) h = absurd (omega arith)
+arity-star (suc (suc zero)) h = absurd (omega arith)
+arity-star (suc (suc (suc zero))) h = absurd (omega arith)
+arity-star (suc (suc (suc (suc k)))) h = refl
 
 pub width-item : (k : ℕ) → (3 ≤ width k) × (width k ≤ 34)
 width-item k = go (eqb k 1)

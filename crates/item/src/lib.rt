@@ -15,18 +15,17 @@ fn is_cut(rest: &[u8], n: usize) -> bool
     rest.len() < (n + 7) / 8
 }
 
-// How many operands an item of a kind takes.
-pub fn arity_of(kind: usize) -> usize
-    requires { ⌜ kind ≤ 4 ⌝ }
+// How many operands an item of a kind takes, whatever its set.
+pub fn arity_of(kind: u8) -> usize
     ensures { λ r. ⌜ (r ≡ arity (itemOf kind 0)) × (r ≤ 2) ⌝ }
 {
-    if kind == 4 {
-        return 1;
-    }
     if kind < 2 {
         return 0;
     }
-    2
+    if kind < 4 {
+        return 2;
+    }
+    1
 }
 
 // How many bits it has.
@@ -87,12 +86,13 @@ pub fn item_at(rest: &[u8], alphabet: u32, at: usize, depth: usize) -> Found
             set: set,
         };
     }
-    if depth < arity_of(kind) {
+    let operator = kind as u8;
+    if depth < arity_of(operator) {
         return fault(13);
     }
     Found {
         outcome: Outcome::Accepted,
-        kind: kind as u8,
+        kind: operator,
         set: 0,
     }
 }

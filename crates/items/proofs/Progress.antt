@@ -22,7 +22,7 @@ use Rattle.item.specs.Faults.{kindAt, itemOf, itemAt, width, faults}
 use Rattle.items.specs.Refusals.{Spot, Read, faulty, upTo, depth, pointOf, past, judged, oneMore, read}
 use Rattle.item.specs.Found.{kindOf, setOf, foundAs, found}
 use Rattle.items.specs.Tables.{scanOf}
-use Rattle.item.proofs.Faults.{arity-kind, kind-at-most, kind-item, width-item, faultless}
+use Rattle.item.proofs.Faults.{arity-kind, kind-item, width-item, faultless}
 
 -- ---- what the code keeps
 
@@ -161,13 +161,13 @@ module _ (b : List ℕ) (alphabet : ℕ) where
         accepted : f ≡ foundAs none (itemAt b (before .0 .at))
         accepted = next ∙ ap (λ (o : Option ℕ). foundAs o (itemAt b (before .0 .at))) fine
 
-        -- the item has a kind, and finds its operands
-        pub turn-known : (f .kind ≤ 4) × (arity (itemOf (f .kind) 0) ≤ depth)
-        turn-known =
+        -- the item finds its operands
+        pub turn-enough : arity (itemOf (f .kind) 0) ≤ depth
+        turn-enough =
             let item = itemAt b (before .0 .at) in
             let k : f .kind ≡ kindOf item = ap (λ (x : Found). x .kind) accepted in
             let taken : arity (itemOf (f .kind) 0) ≡ arity item = ap (λ (n : ℕ). arity (itemOf n 0)) k ∙ arity-kind item in
-            (omega (arith, kind-at-most item), omega (arith, enough (before .0) fine, ap (λ (t : Scan). t .depth) spotted))
+            omega (arith, enough (before .0) fine, ap (λ (t : Scan). t .depth) spotted)
 
         pub turn-accepted : i < 64 → added (scanAt at depth i kind sets) f ≡ scanOf (read b alphabet (i + 1))
         turn-accepted few =

@@ -73,7 +73,7 @@ fn scan_items(rest: &[u8], alphabet: u32, count: usize) -> Scan
         items.kind[i] = f.kind;
         items.set[i] = f.set;
         at += width_of(kind);
-        depth = depth + 1 - arity_of(kind);
+        depth = depth + 1 - arity_of(f.kind);
         i += 1;
     }
     items.count = count;

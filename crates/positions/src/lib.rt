@@ -5,7 +5,7 @@ ghost use mathlib.Core.Bool.{cond};
 ghost use Prim.Native.Nat.{ℕ};
 ghost use lib.ListN.{length};
 ghost use Rattle.rows.specs.Rows.{row, place};
-ghost use Rattle.regex.specs.Items.{empty, events, sequence, choice, repeat, arity, patternOf};
+ghost use Rattle.regex.specs.Items.{empty, events, sequence, choice, repeat, patternOf};
 ghost use Rattle.item.specs.Faults.{itemOf};
 ghost use Rattle.items.specs.Tables.{itemsOn};
 ghost use Rattle.items.specs.Postfix.{Postfix};
@@ -156,19 +156,6 @@ fn take_item(kind: u8, set: u32, at: u64, older: Operand, newer: Operand) -> Mad
     }
 }
 
-// How many operands an item takes.
-fn arity_of(kind: u8) -> usize
-    ensures { λ r. ⌜ ((m : ℕ) → r ≡ arity (itemOf kind m)) ⌝ }
-{
-    match kind {
-        0 => 0,
-        1 => 0,
-        2 => 2,
-        3 => 2,
-        _ => 1,
-    }
-}
-
 // The positions of the pattern that the items build. The operands stand in an array, the newest at the place `depth - 1`; an
 // item's own takes the place of the oldest that it takes. At last what begins the one operand left follows the beginning.
 pub fn positions_of(items: Items) -> Positions
@@ -188,7 +175,7 @@ pub fn positions_of(items: Items) -> Positions
     let mut i: usize = 0;
     while i < total {
         let kind = items.kind[i];
-        let base = depth - arity_of(kind);
+        let base = depth - item::arity_of(kind);
         let at = masks::with_state(0, count as u32);
         let older = operands[base];
         let newer = operands[base + 1];

@@ -138,6 +138,9 @@ returns-5 c =
     let read : _≡_ {A = Found} (record { outcome = Accepted; kind = 1; set = c .before .before .events .result }) (foundAs none (events (setAt (bytes e) (at e)))) = λ i. record { outcome = Accepted; kind = 1; set = c .before .before .events .ensures i } in
     read ∙ sym (ap (λ (o : Option ℕ). foundAs o (itemAt (bytes e) (at e))) fine ∙ ap (foundAs none) is)
 
+cast-operator : tie.Need-cast-operator
+cast-operator c = search needs
+
 arity-of-requires : tie.Need-arity-of-requires
 arity-of-requires c κs = search needs
 
@@ -150,9 +153,6 @@ returns-6 c =
     let e = kind-read (t .before) in
     refused (bytes e) (alphabet e) (at e) (depth e) (c .fault5 .ensures)
     (operands-short (bytes e) (alphabet e) (at e) (depth e) (whole e) _ (kind (t .before)) (known (t .before)) (other t) (rw (← (c .before .before .arity-of .ensures .0)) (lt-ltb _ _ (c .before .if6 .taken))))
-
-cast-t15 : tie.Need-cast-t15
-cast-t15 c = search needs
 
 returns-7 : tie.Need-returns-7
 returns-7 c =
@@ -184,8 +184,8 @@ item-at-spec =
     fault-requires-4
     returns-4
     returns-5
+    cast-operator
     arity-of-requires
     fault-requires-5
     returns-6
-    cast-t15
     returns-7)

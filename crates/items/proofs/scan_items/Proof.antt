@@ -10,7 +10,7 @@ use Rattle.item.specs.Faults.{itemOf}
 use Rattle.items.specs.Refusals.{read}
 use Rattle.items.specs.Tables.{scanOf}
 use Rattle.item.proofs.Faults.{width-item}
-use Rattle.items.proofs.Progress.{scanAt, added, faulty-later, near, turn-refused, turn-known, turn-accepted}
+use Rattle.items.proofs.Progress.{scanAt, added, faulty-later, near, turn-refused, turn-enough, turn-accepted}
 use borrow.Author.Needs.{needs}
 use Rattle.items.proofs.scan_items.Statement.{statement}
 use Rattle.items.proofs.scan_items.Tie as tie
@@ -40,12 +40,12 @@ alphabet c = c .before .before .before .before .args .alphabet
 bounds : (c : tie.In-loop Inv-loop μ-loop) → (c .before .loop .at ≤ 34 * c .before .loop .i) × (c .before .loop .depth ≤ c .before .loop .i)
 bounds c = let loop = c .before .loop in near (bytes c) (alphabet c) (loop .i) (loop .at) (loop .depth) (loop .items .kind) (loop .items .set) (loop .inv .1)
 
--- an item that is not refused has a kind, and finds its operands
-known : (c : tie.After-enum-told Inv-loop μ-loop) → (c .before .before .item-at .result .kind ≤ 4) × (arity (itemOf (c .before .before .item-at .result .kind) 0) ≤ c .before .before .before .before .loop .depth)
-known c =
+-- an item that is not refused finds its operands
+enough : (c : tie.After-enum-told Inv-loop μ-loop) → arity (itemOf (c .before .before .item-at .result .kind) 0) ≤ c .before .before .before .before .loop .depth
+enough c =
     let e = c .before .before .before in
     let loop = e .before .loop in
-    turn-known (bytes e) (alphabet e) (loop .i) (loop .at) (loop .depth) (loop .items .kind) (loop .items .set) (loop .inv .1) (c .before .before .item-at .result) (c .before .before .item-at .ensures) (c .enum-told .given .1)
+    turn-enough (bytes e) (alphabet e) (loop .i) (loop .at) (loop .depth) (loop .items .kind) (loop .items .set) (loop .inv .1) (c .before .before .item-at .result) (c .before .before .item-at .ensures) (c .enum-told .given .1)
 
 item-at-requires : tie.Need-item-at-requires Inv-loop μ-loop
 item-at-requires c κs = omega (arith, bounds c)
@@ -94,10 +94,10 @@ add-depth : tie.Need-add-depth Inv-loop μ-loop
 add-depth c = omega (arith, bounds (c .before .before .before .before .before))
 
 arity-of-requires : tie.Need-arity-of-requires Inv-loop μ-loop
-arity-of-requires c κs = known (c .before .before) .0
+arity-of-requires c κs = search needs
 
 sub-depth : tie.Need-sub-depth Inv-loop μ-loop
-sub-depth c = omega (arith, known (c .before .before .before) .1, c .arity-of .ensures .0)
+sub-depth c = omega (arith, enough (c .before .before .before), c .arity-of .ensures .0)
 
 add-i : tie.Need-add-i Inv-loop μ-loop
 add-i c = search needs

@@ -1,5 +1,5 @@
 -- `positions_of` passes the items in turn: the draft is that of those passed. Assumes nothing.
-use mathlib.Core.Path.{_≡_, refl, ap, _∙_, subst}
+use mathlib.Core.Path.{_≡_, refl, sym, ap, _∙_, subst}
 use mathlib.Core.List.{List, [], _∷_}
 use Prim.Native.Nat.{ℕ, _-_, _≤_, _<_}
 use native.Mathlib.Omega.{arith}
@@ -8,6 +8,7 @@ use Rattle.rows.proofs.Rows.{row-length}
 use Rattle.rows.specs.Rows.{row, place}
 use Rattle.regex.specs.Expression.{Expression}
 use Rattle.regex.specs.Items.{arity, patternOf}
+use Rattle.item.proofs.Faults.{arity-set}
 use Rattle.items.specs.Tables.{itemOn, itemsOn}
 use Rattle.positions.proofs.Items.{Draft, DraftOf, draft-depth, item-taken, size-few}
 use Rattle.positions.proofs.Arrays.{listed-none}
@@ -54,7 +55,7 @@ arity-of-requires c κs = tt
 sub-base : tie.Need-sub-base Inv-loop μ-loop
 sub-base c =
     let inside = c .before .before in
-    rw (c .arity-of .ensures (place (inside .before .before .args .t1 .set) (inside .before .loop .i))) (facts inside .1)
+    rw (c .arity-of .ensures .0, ← (arity-set _ (place (inside .before .before .args .t1 .set) (inside .before .loop .i)))) (facts inside .1)
 
 cast-with-state : tie.Need-cast-with-state Inv-loop μ-loop
 cast-with-state c = omega (arith, facts (c .before .before) .2)
@@ -123,7 +124,7 @@ loop-again c =
     let start = inside .before .before in
     let t = start .args .t1 in
     let loop = inside .before .loop in
-    let n = ap (λ (k : ℕ). loop .depth - k) (counted .arity-of .ensures (place (t .set) (loop .i))) in (
+    let n = ap (λ (k : ℕ). loop .depth - k) (counted .arity-of .ensures .0 ∙ sym (arity-set (place (t .kind) (loop .i)) (place (t .set) (loop .i)))) in (
       omega arith,
       rw (behind-more t (loop .i), c .before .before .gain .ensures, c .gain2 .ensures)
           (item-taken (draft (inside .before)) (facts inside .0) (itemOn t (loop .i)) (behind t (loop .i)) (start .pre .enough (loop .i) (inside .loop-test .taken)) (loop .inv .1)
