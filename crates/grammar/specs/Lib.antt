@@ -1,0 +1,3 @@
+pub mod Grammar
+pub mod Meaning
+pub mod Ways
