@@ -1,6 +1,6 @@
 -- What the tree of a text means under an alphabet: its expression, its postfix items and its letters; and the refusals 18 to 20 of a
 -- text. Document 02, order 1.
-use mathlib.Core.Bool.{Bool, false, not}
+use mathlib.Core.Bool.{Bool, true, false, not}
 use mathlib.Core.List.{List, [], _∷_, _++_}
 use mathlib.Core.Option.{Option, none, some}
 use Prim.Native.Nat.{ℕ, _-_, _^_}
@@ -50,16 +50,33 @@ lettersOf (followed s t) = lettersOf s ++ lettersOf t
 lettersOf (either s t) = lettersOf s ++ lettersOf t
 lettersOf (starred t) = lettersOf t
 
--- ---- the refusals of a text
+-- ---- the refusals of a text, by its reading
 
--- "The text has at most 255 bytes"
-abbrev pub tooLong : List ℕ → Bool
-tooLong w = ltb 255 (length w)
+-- "18 exactly when the text is too long or breaks the grammar": "The text has at most 255 bytes"
+abbrev pub unreadable : List ℕ → Option Tree → Bool
+unreadable w none = true
+unreadable w (some t) = ltb 255 (length w)
 
--- "19 when it needs over 64 items"
-abbrev pub tooManyItems : (alphabet : ℕ) → Tree → Bool
-tooManyItems a t = ltb 64 (length (itemsOf a t))
+-- "then 19 when it needs over 64 items"
+abbrev pub manyItems : Option Tree → (alphabet : ℕ) → Bool
+manyItems none a = false
+manyItems (some t) a = ltb 64 (length (itemsOf a t))
 
--- "20 when a letter is outside the alphabet"
-abbrev pub strangeLetter : (alphabet : ℕ) → Tree → Bool
-strangeLetter a t = any (λ e. not (has a e)) (lettersOf t)
+-- "then 20 when a letter is outside the alphabet"
+abbrev pub strangeLetter : Option Tree → (alphabet : ℕ) → Bool
+strangeLetter none a = false
+strangeLetter (some t) a = any (λ e. not (has a e)) (lettersOf t)
+
+-- in their order, asked of the alphabet
+abbrev pub textRefusals : List ℕ → Option Tree → List (Check ℕ)
+textRefusals w o =
+    refuse 18 (λ a. unreadable w o) ∷ refuse 19 (manyItems o) ∷ refuse 20 (strangeLetter o) ∷ []
+
+-- the items and the expression of a text; a text without a tree is refused
+abbrev pub typedItems : (alphabet : ℕ) → Option Tree → List Item
+typedItems a none = []
+typedItems a (some t) = itemsOf a t
+
+abbrev pub typedExpression : (alphabet : ℕ) → Option Tree → Expression
+typedExpression a none = expression.eps
+typedExpression a (some t) = expressionOf a t

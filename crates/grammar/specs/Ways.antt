@@ -40,6 +40,10 @@ startsWith b (c ∷ w) = eqb c b
 abbrev pub isLetter : ℕ → Bool
 isLetter c = leb 97 c && leb c 122
 
+abbrev pub startsWithLetter : List ℕ → Bool
+startsWithLetter [] = false
+startsWithLetter (c ∷ w) = isLetter c
+
 -- the event of a letter
 abbrev pub eventOf : ℕ → ℕ
 eventOf c = c - 96
