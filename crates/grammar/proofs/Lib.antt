@@ -1,1 +1,2 @@
 -- Laws of the grammar.
+pub mod Items
