@@ -2,13 +2,13 @@
 use mathlib.Core.Path.{_≡_, refl, ap, ap₂, _∙_, subst}
 use mathlib.Core.Bool.{Bool, true, false, cond, false≢true, and-eq-true-iff}
 use mathlib.Core.List.{List, [], _∷_, _++_, map}
-use Prim.Native.Nat.{ℕ, _+_, _-_}
+use Prim.Native.Nat.{ℕ}
 use native.Mathlib.Omega.{arith}
 use borrow.Author.Tests.{eqb-true, ne-eqb, leb-true, le-leb}
 use lib.Dec.{eqb}
 use lib.ListN.{drop}
 use Rattle.grammar.specs.Grammar.{Tree, emptyString, oneOf, noneOf, Lettered, letter, AllLettered, nought, openingSet, closingSet, caret}
-use Rattle.grammar.specs.Meaning.{itemsOf, listed, without}
+use Rattle.grammar.specs.Meaning.{itemsOf}
 use Rattle.grammar.specs.Ways.{Outcome, broken, upTo, startsWith, isLetter, eventOf, letters, pastLetters, listing, inSet, leaf, itemFrom}
 
 pub starts : (b : ℕ) (w : List ℕ) → startsWith b w ≡ true → w ≡ b ∷ drop 1 w

@@ -1,3 +1,5 @@
 -- Laws of the grammar.
 pub mod Items
 pub mod Leaves
+pub mod Complete
+pub mod Sound
