@@ -3,3 +3,4 @@ pub mod Items
 pub mod Leaves
 pub mod Complete
 pub mod Sound
+pub mod Unique
