@@ -4,3 +4,4 @@ pub mod Leaves
 pub mod Complete
 pub mod Sound
 pub mod Unique
+pub mod Letters
