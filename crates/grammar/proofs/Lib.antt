@@ -1,1 +1,7 @@
 -- Laws of the grammar.
+pub mod Items
+pub mod Leaves
+pub mod Complete
+pub mod Sound
+pub mod Unique
+pub mod Letters

@@ -2,6 +2,7 @@
 use mathlib.Core.Path.{_≡_}
 use mathlib.Core.Bool.{Bool, true, false, _&&_, cond}
 use mathlib.Core.List.{List, [], _∷_}
+use mathlib.Core.Option.{Option, none, some}
 use Prim.Native.Nat.{ℕ, _-_}
 use lib.Dec.{leb, eqb}
 use lib.ListN.{drop}
@@ -132,3 +133,10 @@ itemFrom a (c ∷ w) =
 unfoldable pub typedLetters : List ℕ → List ℕ
 typedLetters [] = []
 typedLetters (c ∷ w) = cond (isLetter c) (eventOf c ∷ typedLetters w) (typedLetters w)
+
+-- ---- the tree of a text of which nothing is left
+
+abbrev pub treeOf : Outcome → Option Tree
+treeOf broken = none
+treeOf (upTo t []) = some t
+treeOf (upTo t (c ∷ r)) = none
