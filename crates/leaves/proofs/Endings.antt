@@ -9,7 +9,17 @@ use lib.ListN.{length, drop}
 use Rattle.rows.specs.Rows.{place}
 use Rattle.grammar.specs.Grammar.{Tree, emptyString, oneOf, noneOf, nought, openingSet, closingSet, caret}
 use Rattle.grammar.specs.Ways.{
-  Outcome, broken, upTo, startsWith, isLetter, eventOf, letters, pastLetters, listing, inSet, leaf,
+  Outcome,
+  broken,
+  upTo,
+  startsWith,
+  isLetter,
+  eventOf,
+  letters,
+  pastLetters,
+  listing,
+  inSet,
+  leaf,
 }
 use Rattle.leaves.specs.declared.End.{End}
 use Rattle.leaves.specs.declared.End.the-variants.{Broken, Next}

@@ -11,7 +11,11 @@ ghost use Rattle.leaves.specs.Ends.{Ends};
 pub fn is_at(text: &[u8], at: usize, byte: u8) -> bool
     ensures { λ r. ⌜ r ≡ startsWith byte (drop at (now (text .entry))) ⌝ }
 {
-    if at < text.len() { text[at] == byte } else { false }
+    if at < text.len() {
+        text[at] == byte
+    } else {
+        false
+    }
 }
 
 fn is_letter(c: u8) -> bool
@@ -24,7 +28,11 @@ fn is_letter(c: u8) -> bool
 fn letter_at(text: &[u8], at: usize) -> bool
     ensures { λ r. ⌜ r ≡ startsWithLetter (drop at (now (text .entry))) ⌝ }
 {
-    if at < text.len() { is_letter(text[at]) } else { false }
+    if at < text.len() {
+        is_letter(text[at])
+    } else {
+        false
+    }
 }
 
 // The first place from `from` on where no letter stands.

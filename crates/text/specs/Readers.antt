@@ -1,0 +1,51 @@
+-- How the readers keep what they read: an order of places of the text, one for each item. No public promise speaks of it.
+use mathlib.Core.Path.{_≡_}
+use mathlib.Core.Bool.{true, false}
+use mathlib.Core.List.{List, _++_}
+use Prim.Native.Nat.{ℕ, _+_, _≤_, _<_}
+use lib.ListN.{length, drop}
+use Rattle.rows.specs.Rows.{row, place}
+use Rattle.regex.specs.Items.{Item}
+use Rattle.grammar.specs.Grammar.{Tree, closing}
+use Rattle.grammar.specs.Meaning.{itemsOf}
+use Rattle.grammar.specs.Ways.{Outcome, broken, upTo, startsWith, stars, itemFrom, Task, Way}
+use Rattle.text.specs.declared.Reached.{Reached}
+use Rattle.text.specs.declared.Reached.the-variants.{Broken, Next}
+
+-- the items whose first bytes stand at the first n places of the order
+unfoldable pub itemsBy : (a : ℕ) → (text order : List ℕ) → (n : ℕ) → List Item
+itemsBy a text order n = row n (λ i. itemFrom a (drop (place order i) text))
+
+-- a reader went from `at` to `next`, and the order from `before`, with `count` places, to `after`, with n
+module _ (text : List ℕ) (at count : ℕ) (before after : List ℕ) where
+  -- the tree s is that of the bytes behind, if t is that of the bytes before
+  pub record Continued (t s : Tree) (n : ℕ) : Type 0 where
+    pub items : (a : ℕ) (pre : List Item) → itemsBy a text before count ≡ pre ++ itemsOf a t → itemsBy a text after n ≡ pre ++ itemsOf a s
+
+  -- k stars
+  pub record Starred (k : ℕ) : Type 0 where
+    pub within : at + k ≤ length text
+    pub goes : (t : Tree) → (s : Tree) × (stars t (drop at text) ≡ upTo s (drop (at + k) text)) × Continued t s (count + k)
+
+  -- the closing bracket and the stars behind it
+  abbrev pub Closes : Reached → Type 0
+  Closes Broken = startsWith closing (drop at text) ≡ false
+  Closes (Next next n) =
+      (startsWith closing (drop at text) ≡ true)
+      × (at < next)
+      × (next ≤ length text)
+      × (n + at < next + count)
+      × ((t : Tree) → (s : Tree) × (stars t (drop (at + 1) text) ≡ upTo s (drop next text)) × Continued t s n)
+
+  -- a task was done: it gives no more items than it passes bytes
+  pub record Onward (task : Task) (next n : ℕ) : Type 0 where
+    pub tree : Tree
+    pub way : Way task (drop at text) (upTo tree (drop next text))
+    pub further : at < next
+    pub within : next ≤ length text
+    pub few : n + at ≤ next + count
+    pub items : (a : ℕ) → itemsBy a text after n ≡ itemsBy a text before count ++ itemsOf a tree
+
+  abbrev pub Went : Task → Reached → Type 0
+  Went task Broken = Way task (drop at text) broken
+  Went task (Next next n) = Onward task next n
