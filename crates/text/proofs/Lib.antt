@@ -1,1 +1,2 @@
 -- Laws of the readers of texts.
+pub mod Orders

@@ -16,6 +16,12 @@ use Rattle.text.specs.declared.Reached.the-variants.{Broken, Next}
 unfoldable pub itemsBy : (a : ℕ) → (text order : List ℕ) → (n : ℕ) → List Item
 itemsBy a text order n = row n (λ i. itemFrom a (drop (place order i) text))
 
+-- what a reader is lent: a text that is short enough, an order of 256 places, and no more items in it than bytes were passed
+pub record Lent (text order : List ℕ) (at count : ℕ) : Type 0 where
+  pub bytes : length text ≤ 255
+  pub places : length order ≡ 256
+  pub fewer : count ≤ at
+
 -- a reader went from `at` to `next`, and the order from `before`, with `count` places, to `after`, with n
 module _ (text : List ℕ) (at count : ℕ) (before after : List ℕ) where
   -- the tree s is that of the bytes behind, if t is that of the bytes before
@@ -24,6 +30,7 @@ module _ (text : List ℕ) (at count : ℕ) (before after : List ℕ) where
 
   -- k stars
   pub record Starred (k : ℕ) : Type 0 where
+    pub places : length after ≡ 256
     pub within : at + k ≤ length text
     pub goes : (t : Tree) → (s : Tree) × (stars t (drop at text) ≡ upTo s (drop (at + k) text)) × Continued t s (count + k)
 
@@ -35,6 +42,7 @@ module _ (text : List ℕ) (at count : ℕ) (before after : List ℕ) where
       × (at < next)
       × (next ≤ length text)
       × (n + at < next + count)
+      × (length after ≡ 256)
       × ((t : Tree) → (s : Tree) × (stars t (drop (at + 1) text) ≡ upTo s (drop next text)) × Continued t s n)
 
   -- a task was done: it gives no more items than it passes bytes
@@ -44,6 +52,7 @@ module _ (text : List ℕ) (at count : ℕ) (before after : List ℕ) where
     pub further : at < next
     pub within : next ≤ length text
     pub few : n + at ≤ next + count
+    pub places : length after ≡ 256
     pub items : (a : ℕ) → itemsBy a text after n ≡ itemsBy a text before count ++ itemsOf a tree
 
   abbrev pub Went : Task → Reached → Type 0

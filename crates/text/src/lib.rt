@@ -8,7 +8,7 @@ ghost use Prim.Native.Nat.{_≤_};
 ghost use lib.ListN.{length, drop};
 ghost use Rattle.grammar.specs.Grammar.{opening};
 ghost use Rattle.grammar.specs.Ways.{startsWith, chain, choices, sequences, oneUnit};
-ghost use Rattle.text.specs.Readers.{Starred, Closes, Went};
+ghost use Rattle.text.specs.Readers.{Lent, Starred, Closes, Went};
 
 // Where a reader has come to: the next place of the text, and how many items there are. The items stand in a lent order, each as
 // the place of its first byte: the readers hand on nothing that is large.
@@ -19,7 +19,7 @@ enum Reached {
 
 // The stars from `from` on: how many there are.
 fn stars(text: &[u8], from: usize, order: &mut [u8; 256], already: usize) -> usize
-    requires { ⌜ (length (now text) ≤ 255) × (already ≤ from) × (from ≤ length (now text)) ⌝ }
+    requires { ⌜ Lent (now text) (now order) from already × (from ≤ length (now text)) ⌝ }
     ensures { λ k. ⌜ Starred (now (text .entry)) from already (now (order .entry)) (now (order .exit)) k ⌝ }
 {
     let mut k: usize = 0;
@@ -32,7 +32,7 @@ fn stars(text: &[u8], from: usize, order: &mut [u8; 256], already: usize) -> usi
 
 // A unit without round brackets.
 fn plain(text: &[u8], at: usize, order: &mut [u8; 256], count: usize) -> Reached
-    requires { ⌜ (length (now text) ≤ 255) × (count ≤ at) × (startsWith opening (drop at (now text)) ≡ false) ⌝ }
+    requires { ⌜ Lent (now text) (now order) at count × (startsWith opening (drop at (now text)) ≡ false) ⌝ }
     ensures { λ r. ⌜ Went (now (text .entry)) at count (now (order .entry)) (now (order .exit)) oneUnit r ⌝ }
 {
     let leaf = leaf_end(text, at);
@@ -48,7 +48,7 @@ fn plain(text: &[u8], at: usize, order: &mut [u8; 256], count: usize) -> Reached
 
 // What is left of a unit behind the choice in its brackets.
 fn closed(text: &[u8], at: usize, order: &mut [u8; 256], count: usize) -> Reached
-    requires { ⌜ (length (now text) ≤ 255) × (count ≤ at) ⌝ }
+    requires { ⌜ Lent (now text) (now order) at count ⌝ }
     ensures { λ r. ⌜ Closes (now (text .entry)) at count (now (order .entry)) (now (order .exit)) r ⌝ }
 {
     if is_at(text, at, b')') {
@@ -61,7 +61,7 @@ fn closed(text: &[u8], at: usize, order: &mut [u8; 256], count: usize) -> Reache
 
 // A unit: letter, set, empty string or a choice in brackets, with its stars.
 fn unit(text: &[u8], at: usize, order: &mut [u8; 256], count: usize) -> Reached
-    requires { ⌜ (length (now text) ≤ 255) × (count ≤ at) ⌝ }
+    requires { ⌜ Lent (now text) (now order) at count ⌝ }
     ensures { λ r. ⌜ Went (now (text .entry)) at count (now (order .entry)) (now (order .exit)) oneUnit r ⌝ }
 {
     if is_at(text, at, b'(') {
@@ -76,7 +76,7 @@ fn unit(text: &[u8], at: usize, order: &mut [u8; 256], count: usize) -> Reached
 
 // A sequence: units, a `;` between them.
 fn sequence(text: &[u8], from: usize, order: &mut [u8; 256], already: usize) -> Reached
-    requires { ⌜ (length (now text) ≤ 255) × (already ≤ from) ⌝ }
+    requires { ⌜ Lent (now text) (now order) from already ⌝ }
     ensures { λ r. ⌜ Went (now (text .entry)) from already (now (order .entry)) (now (order .exit)) (chain sequences) r ⌝ }
 {
     let first = unit(text, from, order, already);
@@ -99,7 +99,7 @@ fn sequence(text: &[u8], from: usize, order: &mut [u8; 256], already: usize) -> 
 
 // A choice: sequences, a `|` between them.
 fn choice(text: &[u8], from: usize, order: &mut [u8; 256], already: usize) -> Reached
-    requires { ⌜ (length (now text) ≤ 255) × (already ≤ from) ⌝ }
+    requires { ⌜ Lent (now text) (now order) from already ⌝ }
     ensures { λ r. ⌜ Went (now (text .entry)) from already (now (order .entry)) (now (order .exit)) (chain choices) r ⌝ }
 {
     let first = sequence(text, from, order, already);
