@@ -5,3 +5,4 @@ pub mod Complete
 pub mod Sound
 pub mod Unique
 pub mod Letters
+pub mod Sets
