@@ -6,3 +6,4 @@ pub mod Sound
 pub mod Unique
 pub mod Letters
 pub mod Sets
+pub mod Evaluate
