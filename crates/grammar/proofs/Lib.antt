@@ -7,3 +7,4 @@ pub mod Unique
 pub mod Letters
 pub mod Sets
 pub mod Evaluate
+pub mod Every
