@@ -80,7 +80,7 @@ right (begins {k} {t} {w} {r} {o} d e) =
     let (u, q, f) = right d [] (fresh k) in
     goes-on (Before (chain k)) k t w u r o q (λ x b. rw b (one k f)) (right e)
 right (fails d) = tt
-right (ends {t} n) = λ x b. ([], refl, rw append-nil b)
+right (ends n) = λ x b. ([], refl, rw append-nil b)
 right (joins {k} {s} {t} {v} {w} {r} {o} q d e) =
     let (u, p, f) = right d [] (fresh k) in
     goes-on (Before (onward k s)) k (joined k s t) v (operator k ∷ u) r o
