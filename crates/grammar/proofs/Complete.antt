@@ -8,7 +8,7 @@ use Rattle.grammar.specs.Ways.{Outcome, upTo, startsWith, stars, choices
 use Rattle.grammar.proofs.Leaves.{leaf-letter, leaf-set, leaf-rest}
 
 -- no star stands behind the tree
-pub stars-none : (t : Tree) (r : List ℕ) → startsWith asterisk r ≡ false → stars t r ≡ upTo t r
+stars-none : (t : Tree) (r : List ℕ) → startsWith asterisk r ≡ false → stars t r ≡ upTo t r
 unfolding stars
 stars-none t [] h = refl
 stars-none t (c ∷ r) h = rw h refl

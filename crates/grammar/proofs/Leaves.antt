@@ -105,7 +105,7 @@ inSet-cases c w q = go (startsWith caret w) refl
     go true p = listing-cases noneOf (drop 1 w) (λ es r h e. aRest h (cc (starts caret w p)))
     go false p = listing-cases oneOf w (λ es r h e. aSet h (cc))
 
-pub leaf-cases : (w : List ℕ) → Leaf w (leaf w)
+leaf-cases : (w : List ℕ) → Leaf w (leaf w)
 leaf-cases [] = noLeaf
 leaf-cases (c ∷ w) = go (isLetter c) (eqb c nought) (eqb c openingSet) refl refl refl
   where

@@ -5,3 +5,6 @@ pub mod Complete
 pub mod Sound
 pub mod Unique
 pub mod Letters
+pub mod Sets
+pub mod Evaluate
+pub mod Every

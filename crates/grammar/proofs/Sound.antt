@@ -9,12 +9,12 @@ use Rattle.grammar.specs.Grammar.{Tree, starred, Part, choice, sequence,
 use Rattle.grammar.specs.Ways.{Outcome, broken, upTo, stars, Chain, choices, sequences, operator, joined, Task, chain, onward, oneUnit, operand, Way, begins, fails, ends, joins, lacks, plain, unfit, inside, unclosed, within}
 use Rattle.grammar.proofs.Leaves.{Leaf, aNought, aLetter, aSet, aRest, leaf-of}
 
-abbrev chained : Chain → Part
+abbrev pub chained : Chain → Part
 chained choices = choice
 chained sequences = sequence
 
 -- the part that a task reads
-abbrev partOf : Task → Part
+abbrev pub partOf : Task → Part
 partOf (chain k) = chained k
 partOf (onward k s) = chained k
 partOf oneUnit = unit
@@ -80,7 +80,7 @@ right (begins {k} {t} {w} {r} {o} d e) =
     let (u, q, f) = right d [] (fresh k) in
     goes-on (Before (chain k)) k t w u r o q (λ x b. rw b (one k f)) (right e)
 right (fails d) = tt
-right (ends {t} n) = λ x b. ([], refl, rw append-nil b)
+right (ends n) = λ x b. ([], refl, rw append-nil b)
 right (joins {k} {s} {t} {v} {w} {r} {o} q d e) =
     let (u, p, f) = right d [] (fresh k) in
     goes-on (Before (onward k s)) k (joined k s t) v (operator k ∷ u) r o
@@ -94,6 +94,10 @@ right (inside {t} {v} {w} {r} q d p) =
     rw p (stars-right v (opening ∷ u ++ closing ∷ []) t r g (brackets f refl))
 right (unclosed q d n) = tt
 right (within q d) = tt
+
+pub operand-sound : (k : Chain) {w : List ℕ} {t : Tree} {r : List ℕ}
+    → Way (operand k) w (upTo t r) → (u : List ℕ) × (w ≡ u ++ r) × Reads (partOf (operand k)) u t
+operand-sound k d = right d [] (fresh k)
 
 pub sound : (w : List ℕ) (t : Tree) (r : List ℕ) → Way (chain choices) w (upTo t r) → (u : List ℕ) × (w ≡ u ++ r) × Reads choice u t
 sound w t r d = right d [] refl

@@ -32,7 +32,7 @@ closed broken = broken
 closed (upTo t []) = broken
 closed (upTo t (c ∷ r)) = cond (eqb c closing) (stars t r) broken
 
-pub not-closed : (t : Tree) (r : List ℕ) → startsWith closing r ≡ false → closed (upTo t r) ≡ broken
+not-closed : (t : Tree) (r : List ℕ) → startsWith closing r ≡ false → closed (upTo t r) ≡ broken
 not-closed t [] n = refl
 not-closed t (c ∷ r) n = rw n refl
 
