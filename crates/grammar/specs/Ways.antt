@@ -6,6 +6,7 @@ use mathlib.Core.Option.{Option, none, some}
 use Prim.Native.Nat.{ℕ, _-_}
 use lib.Dec.{leb, eqb}
 use lib.ListN.{drop}
+use Rattle.rows.specs.Rows.{row, place}
 use Rattle.regex.specs.Items.{Item, empty, events, sequence, choice, repeat}
 use Rattle.grammar.specs.Grammar.{
   Tree,
@@ -127,6 +128,10 @@ itemFrom a (c ∷ w) =
     cond (isLetter c) (events (listed (eventOf c ∷ [])))
     (cond (eqb c openingSet) (events (setFrom a w))
     (cond (eqb c semicolon) sequence (cond (eqb c bar) choice (cond (eqb c asterisk) repeat empty))))
+
+-- the items whose first bytes stand at the first n places of the order
+unfoldable pub itemsBy : (a : ℕ) → (text order : List ℕ) → (n : ℕ) → List Item
+itemsBy a text order n = row n (λ i. itemFrom a (drop (place order i) text))
 
 -- ---- the letters that stand in a text, as events
 

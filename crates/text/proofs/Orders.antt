@@ -12,9 +12,9 @@ use Rattle.rows.proofs.Rows.{row-ext}
 use Rattle.regex.specs.Items.{Item, repeat}
 use Rattle.grammar.specs.Grammar.{Tree, starred, asterisk}
 use Rattle.grammar.specs.Meaning.{itemsOf}
-use Rattle.grammar.specs.Ways.{Outcome, broken, upTo, startsWith, stars, itemFrom}
+use Rattle.grammar.specs.Ways.{Outcome, broken, upTo, startsWith, stars, itemFrom, itemsBy}
 use Rattle.leaves.proofs.Bytes.{starts-cons}
-use Rattle.text.specs.Readers.{itemsBy, Continued}
+use Rattle.text.specs.Readers.{Continued}
 
 -- a place set behind the first n is one item more
 row-more : {A : Type 0} (n : ℕ) (f g : ℕ → A) → ((i : ℕ) → i < n → f i ≡ g i) → row (suc n) f ≡ row n g ++ (f n ∷ [])

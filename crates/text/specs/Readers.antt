@@ -4,17 +4,12 @@ use mathlib.Core.Bool.{true, false}
 use mathlib.Core.List.{List, _++_}
 use Prim.Native.Nat.{ℕ, _+_, _≤_, _<_}
 use lib.ListN.{length, drop}
-use Rattle.rows.specs.Rows.{row, place}
 use Rattle.regex.specs.Items.{Item}
 use Rattle.grammar.specs.Grammar.{Tree, closing}
 use Rattle.grammar.specs.Meaning.{itemsOf}
-use Rattle.grammar.specs.Ways.{Outcome, broken, upTo, startsWith, stars, itemFrom, Task, Way}
+use Rattle.grammar.specs.Ways.{Outcome, broken, upTo, startsWith, stars, itemsBy, Task, Way}
 use Rattle.text.specs.declared.Reached.{Reached}
 use Rattle.text.specs.declared.Reached.the-variants.{Broken, Next}
-
--- the items whose first bytes stand at the first n places of the order
-unfoldable pub itemsBy : (a : ℕ) → (text order : List ℕ) → (n : ℕ) → List Item
-itemsBy a text order n = row n (λ i. itemFrom a (drop (place order i) text))
 
 -- what a reader is lent: a text that is short enough, an order of 256 places, and no more items in it than bytes were passed
 pub record Lent (text order : List ℕ) (at count : ℕ) : Type 0 where

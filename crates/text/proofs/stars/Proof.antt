@@ -16,7 +16,7 @@ use Rattle.text.proofs.stars.Tie as tie
 
 abbrev Inv-loop : tie.InvT-loop
 Inv-loop text from order₀ already k₀ order k =
-      (from + k ≤ length text)
+    (from + k ≤ length text)
     × (length order ≡ 256)
     × ((t : Tree) → (s : Tree) × (stars t (drop from text) ≡ stars s (drop (from + k) text)) × Continued text from already order₀ order t s (already + k))
 
@@ -27,10 +27,10 @@ loop-holds : tie.Need-loop-holds Inv-loop μ-loop
 loop-holds c =
     let args = c .before .args in
     let e : args .from + 0 ≡ args .from = omega arith in
-    let n : args .already + 0 ≡ args .already = omega arith in
-    ( omega (arith, c .before .pre .1)
-    , c .before .pre .0 .places
-    , λ t. (t, ap (λ (i : ℕ). stars t (drop i (args .text .now))) (sym e), record { items = λ a pre q. rw n q })
+    let n : args .already + 0 ≡ args .already = omega arith in (
+      omega (arith, c .before .pre .1),
+      c .before .pre .0 .places,
+      λ t. (t, ap (λ (i : ℕ). stars t (drop i (args .text .now))) (sym e), record { items = λ a pre q. rw n q }),
     )
 
 add-is-at : tie.Need-add-is-at Inv-loop μ-loop
@@ -83,15 +83,15 @@ loop-again c =
     let n = args .already + loop .k in
     let e : here c + 1 ≡ args .from + (loop .k + 1) = omega arith in
     let m : n + 1 ≡ args .already + (loop .k + 1) = omega arith in
-    let room : n < length (loop .order) = omega (arith, within c, short c, fewer c, loop .inv .1) in
-    ( omega (arith, within c)
-    , length-set (loop .order) n (here c) ∙ loop .inv .1
-    , λ t.
-        let so = loop .inv .2 t in
-        ( starred (so .0)
-        , so .1 ∙ star-more (so .0) (args .text .now) (here c) (star c) ∙ ap (λ (i : ℕ). stars (starred (so .0)) (drop i (args .text .now))) e
-        , subst (λ (i : ℕ). Continued (args .text .now) (args .from) (args .already) (args .order .now) (set (loop .order) n (here c)) t (starred (so .0)) i) m (starred-on (here c) room (star c) (so .2))
-        )
+    let room : n < length (loop .order) = omega (arith, within c, short c, fewer c, loop .inv .1) in (
+      omega (arith, within c),
+      length-set (loop .order) n (here c) ∙ loop .inv .1,
+      λ t.
+          let so = loop .inv .2 t in (
+            starred (so .0),
+            so .1 ∙ star-more (so .0) (args .text .now) (here c) (star c) ∙ ap (λ (i : ℕ). stars (starred (so .0)) (drop i (args .text .now))) e,
+            subst (λ (i : ℕ). Continued (args .text .now) (args .from) (args .already) (args .order .now) (set (loop .order) n (here c)) t (starred (so .0)) i) m (starred-on (here c) room (star c) (so .2)),
+          ),
     )
 
 returns : tie.Need-returns Inv-loop μ-loop
