@@ -17,17 +17,17 @@ pub record Lent (text order : List ℕ) (at count : ℕ) : Type 0 where
   pub places : length order ≡ 256
   pub fewer : count ≤ at
 
--- a reader went from `at` to `next`, and the order from `before`, with `count` places, to `after`, with n
-module _ (text : List ℕ) (at count : ℕ) (before after : List ℕ) where
-  -- the tree s is that of the bytes behind, if t is that of the bytes before
-  pub record Continued (t s : Tree) (n : ℕ) : Type 0 where
-    pub items : (a : ℕ) (pre : List Item) → itemsBy a text before count ≡ pre ++ itemsOf a t → itemsBy a text after n ≡ pre ++ itemsOf a s
+-- the order went from `before`, with `count` places, to `after`, with n: if the tree t had the last items before, s has them after
+pub record Continued (text before : List ℕ) (count : ℕ) (after : List ℕ) (n : ℕ) (t s : Tree) : Type 0 where
+  pub items : (a : ℕ) (pre : List Item) → itemsBy a text before count ≡ pre ++ itemsOf a t → itemsBy a text after n ≡ pre ++ itemsOf a s
 
+-- a reader went on from `at`, and the order from `before` to `after`
+module _ (text : List ℕ) (at count : ℕ) (before after : List ℕ) where
   -- k stars
   pub record Starred (k : ℕ) : Type 0 where
     pub places : length after ≡ 256
     pub within : at + k ≤ length text
-    pub goes : (t : Tree) → (s : Tree) × (stars t (drop at text) ≡ upTo s (drop (at + k) text)) × Continued t s (count + k)
+    pub goes : (t : Tree) → (s : Tree) × (stars t (drop at text) ≡ upTo s (drop (at + k) text)) × Continued text before count after (count + k) t s
 
   -- the closing bracket and the stars behind it
   abbrev pub Closes : Reached → Type 0
@@ -38,7 +38,7 @@ module _ (text : List ℕ) (at count : ℕ) (before after : List ℕ) where
       × (next ≤ length text)
       × (n + at < next + count)
       × (length after ≡ 256)
-      × ((t : Tree) → (s : Tree) × (stars t (drop (at + 1) text) ≡ upTo s (drop next text)) × Continued t s n)
+      × ((t : Tree) → (s : Tree) × (stars t (drop (at + 1) text) ≡ upTo s (drop next text)) × Continued text before count after n t s)
 
   -- a task was done: it gives no more items than it passes bytes
   pub record Onward (task : Task) (next n : ℕ) : Type 0 where

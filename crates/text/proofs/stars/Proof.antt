@@ -18,7 +18,7 @@ abbrev Inv-loop : tie.InvT-loop
 Inv-loop text from order₀ already k₀ order k =
     (from + k ≤ length text)
     × (length order ≡ 256)
-    × ((t : Tree) → (s : Tree) × (stars t (drop from text) ≡ stars s (drop (from + k) text)) × Continued text from already order₀ order t s (already + k))
+    × ((t : Tree) → (s : Tree) × (stars t (drop from text) ≡ stars s (drop (from + k) text)) × Continued text order₀ already order (already + k) t s)
 
 abbrev μ-loop : tie.MeasureT-loop
 μ-loop text from order₀ already k₀ order k = length text - (from + k)
@@ -90,7 +90,7 @@ loop-again c =
           let so = loop .inv .2 t in (
             starred (so .0),
             so .1 ∙ star-more (so .0) (args .text .now) (here c) (star c) ∙ ap (λ (i : ℕ). stars (starred (so .0)) (drop i (args .text .now))) e,
-            subst (λ (i : ℕ). Continued (args .text .now) (args .from) (args .already) (args .order .now) (set (loop .order) n (here c)) t (starred (so .0)) i) m (starred-on (here c) room (star c) (so .2)),
+            subst (λ (i : ℕ). Continued (args .text .now) (args .order .now) (args .already) (set (loop .order) n (here c)) i t (starred (so .0))) m (starred-on (here c) room (star c) (so .2)),
           ),
     )
 
