@@ -1,2 +1,3 @@
 -- Laws of the readers of texts.
 pub mod Orders
+pub mod Chains

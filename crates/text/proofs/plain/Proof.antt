@@ -47,9 +47,9 @@ stars-requires : tie.Need-stars-requires
 stars-requires c κs =
     let a = start (c .before) .args in
     let pre = start (c .before) .pre .0 in
-    let end = ended (c .before) in
-    ( record { bytes = pre .bytes; places = length-set (a .order .now) (a .count) (a .at) ∙ pre .places; fewer = omega (arith, end .2, pre .fewer) }
-    , end .3
+    let end = ended (c .before) in (
+      record { bytes = pre .bytes; places = length-set (a .order .now) (a .count) (a .at) ∙ pre .places; fewer = omega (arith, end .2, pre .fewer) },
+      end .3,
     )
 
 add-t13 : tie.Need-add-t13
