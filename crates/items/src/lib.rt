@@ -86,7 +86,7 @@ fn scan_items(rest: &[u8], alphabet: u32, count: usize) -> Scan
 }
 
 // A refusal: its number, and nothing else.
-fn none_read(n: u32) -> ItemsRead
+pub fn none_read(n: u32) -> ItemsRead
     ensures { λ r. ⌜ r ≡ answered (some n) [] ⌝ }
 {
     ItemsRead {

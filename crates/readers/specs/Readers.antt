@@ -8,8 +8,8 @@ use Rattle.regex.specs.Items.{Item}
 use Rattle.grammar.specs.Grammar.{Tree, closing}
 use Rattle.grammar.specs.Meaning.{itemsOf}
 use Rattle.grammar.specs.Ways.{Outcome, broken, upTo, startsWith, stars, itemsBy, Task, Way}
-use Rattle.text.specs.declared.Reached.{Reached}
-use Rattle.text.specs.declared.Reached.the-variants.{Broken, Next}
+use Rattle.readers.specs.declared.Reached.{Reached}
+use Rattle.readers.specs.declared.Reached.the-variants.{Broken, Next}
 
 -- what a reader is lent: a text that is short enough, an order of 256 places, and no more items in it than bytes were passed
 pub record Lent (text order : List ℕ) (at count : ℕ) : Type 0 where

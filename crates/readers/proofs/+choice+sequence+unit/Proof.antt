@@ -12,24 +12,24 @@ use borrow.Fn.Kinds.{In}
 use Rattle.grammar.specs.Grammar.{opening}
 use Rattle.grammar.specs.Ways.{startsWith, choices, sequences, operator, operand, chain, oneUnit, fails}
 use Rattle.leaves.proofs.Bytes.{starts-within}
-use Rattle.text.specs.declared.Reached.{Reached}
-use Rattle.text.specs.Readers.{Onward, Went}
-use Rattle.text.proofs.Chains.{Sofar, first-operand, chain-ends, operator-within, lent-on, chain-breaks, room, next-operand, brackets-break, brackets-close}
+use Rattle.readers.specs.declared.Reached.{Reached}
+use Rattle.readers.specs.Readers.{Onward, Went}
+use Rattle.readers.proofs.Chains.{Sofar, first-operand, chain-ends, operator-within, lent-on, chain-breaks, room, next-operand, brackets-break, brackets-close}
 use borrow.Fn.PlainCycle.{Measures, is, falls, and}
-use Rattle.text.proofs.choice.Reads as choice
-use Rattle.text.proofs.choice.Kinds as choice-kinds
-use Rattle.text.proofs.+choice+sequence+unit.Lts-choice as choice-lts
-use Rattle.text.proofs.sequence.Reads as sequence
-use Rattle.text.proofs.sequence.Kinds as sequence-kinds
-use Rattle.text.proofs.+choice+sequence+unit.Lts-sequence as sequence-lts
-use Rattle.text.proofs.unit.Reads as unit
-use Rattle.text.proofs.unit.Kinds as unit-kinds
-use Rattle.text.proofs.+choice+sequence+unit.Lts-unit as unit-lts
+use Rattle.readers.proofs.choice.Reads as choice
+use Rattle.readers.proofs.choice.Kinds as choice-kinds
+use Rattle.readers.proofs.+choice+sequence+unit.Lts-choice as choice-lts
+use Rattle.readers.proofs.sequence.Reads as sequence
+use Rattle.readers.proofs.sequence.Kinds as sequence-kinds
+use Rattle.readers.proofs.+choice+sequence+unit.Lts-sequence as sequence-lts
+use Rattle.readers.proofs.unit.Reads as unit
+use Rattle.readers.proofs.unit.Kinds as unit-kinds
+use Rattle.readers.proofs.+choice+sequence+unit.Lts-unit as unit-lts
 use Rattle.leaves.proofs.is_at.Reads as is-at-reads
-use Rattle.text.proofs.closed.Reads as closed-reads
-use Rattle.text.proofs.plain.Reads as plain-reads
-use Rattle.text.proofs.+choice+sequence+unit.{statement}
-use Rattle.text.proofs.+choice+sequence+unit.Tie.{close}
+use Rattle.readers.proofs.closed.Reads as closed-reads
+use Rattle.readers.proofs.plain.Reads as plain-reads
+use Rattle.readers.proofs.+choice+sequence+unit.{statement}
+use Rattle.readers.proofs.+choice+sequence+unit.Tie.{close}
 
 abbrev μ-choice : Measures 2 choice-kinds.ps ℕ
 μ-choice κs a = 3 * (length (now (a .0)) - a .1 .0) + 2

@@ -8,8 +8,8 @@ use Rattle.grammar.specs.Grammar.{closing}
 use Rattle.grammar.specs.Ways.{startsWith}
 use Rattle.leaves.proofs.Bytes.{starts-within}
 use borrow.Author.Needs.{needs}
-use Rattle.text.proofs.closed.Statement.{statement}
-use Rattle.text.proofs.closed.Tie as tie
+use Rattle.readers.proofs.closed.Statement.{statement}
+use Rattle.readers.proofs.closed.Tie as tie
 
 found : (c : tie.Then1) → let a = c .before .before .before .args in startsWith closing (drop (a .at) (a .text .now)) ≡ true
 found c = sym (c .before .is-at .ensures) ∙ c .if1 .taken

@@ -8,10 +8,10 @@ use Rattle.grammar.specs.Ways.{Outcome, leaf, plain, unfit, itemsBy}
 use Rattle.leaves.specs.declared.End.{End}
 use Rattle.leaves.specs.declared.End.the-variants.{Next}
 use Rattle.leaves.specs.Ends.{Ends}
-use Rattle.text.proofs.Orders.{leaf-placed}
+use Rattle.readers.proofs.Orders.{leaf-placed}
 use borrow.Author.Needs.{needs}
-use Rattle.text.proofs.plain.Statement.{statement}
-use Rattle.text.proofs.plain.Tie as tie
+use Rattle.readers.proofs.plain.Statement.{statement}
+use Rattle.readers.proofs.plain.Tie as tie
 
 -- the leaf that was found
 abbrev start : tie.After-known-told → tie.Start

@@ -8,11 +8,11 @@ use lib.ListN.{length, drop, set, length-set}
 use Rattle.grammar.specs.Grammar.{Tree, starred, asterisk}
 use Rattle.grammar.specs.Ways.{Outcome, upTo, startsWith, stars}
 use Rattle.leaves.proofs.Bytes.{starts-within}
-use Rattle.text.specs.Readers.{Continued}
-use Rattle.text.proofs.Orders.{star-more, stars-end, starred-on}
+use Rattle.readers.specs.Readers.{Continued}
+use Rattle.readers.proofs.Orders.{star-more, stars-end, starred-on}
 use borrow.Author.Needs.{needs}
-use Rattle.text.proofs.stars.Statement.{statement}
-use Rattle.text.proofs.stars.Tie as tie
+use Rattle.readers.proofs.stars.Statement.{statement}
+use Rattle.readers.proofs.stars.Tie as tie
 
 abbrev Inv-loop : tie.InvT-loop
 Inv-loop text from order₀ already k₀ order k =

@@ -15,7 +15,7 @@ use Rattle.grammar.specs.Meaning.{itemsOf}
 use Rattle.grammar.specs.Ways.{Outcome, broken, upTo, startsWith, leaf, stars, Chain, choices, sequences, operator, joined, itemFrom, itemsBy}
 use Rattle.grammar.proofs.Leaves.{leaf-item}
 use Rattle.leaves.proofs.Bytes.{starts-cons}
-use Rattle.text.specs.Readers.{Continued}
+use Rattle.readers.specs.Readers.{Continued}
 
 -- a place set behind the first n is one item more
 row-more : {A : Type 0} (n : ℕ) (f g : ℕ → A) → ((i : ℕ) → i < n → f i ≡ g i) → row (suc n) f ≡ row n g ++ (f n ∷ [])

@@ -32,10 +32,10 @@ use Rattle.grammar.specs.Ways.{
   itemsBy,
 }
 use Rattle.leaves.proofs.Bytes.{starts-cons, starts-within}
-use Rattle.text.specs.declared.Reached.{Reached}
-use Rattle.text.specs.declared.Reached.the-variants.{Broken, Next}
-use Rattle.text.specs.Readers.{Lent, Closes, Onward, Went}
-use Rattle.text.proofs.Orders.{joined-on}
+use Rattle.readers.specs.declared.Reached.{Reached}
+use Rattle.readers.specs.declared.Reached.the-variants.{Broken, Next}
+use Rattle.readers.specs.Readers.{Lent, Closes, Onward, Went}
+use Rattle.readers.proofs.Orders.{joined-on}
 
 -- the reader of a chain that begins at `from` stands at `at`, behind the operands of a tree
 pub record Sofar (k : Chain) (text : List ℕ) (from already : ℕ) (before order : List ℕ) (at count : ℕ) : Type 0 where

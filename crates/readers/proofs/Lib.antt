@@ -1,0 +1,3 @@
+-- Laws of the readers of choices, sequences and units.
+pub mod Orders
+pub mod Chains

@@ -1,3 +1,0 @@
--- Laws of the readers of texts.
-pub mod Orders
-pub mod Chains
