@@ -1,0 +1,2 @@
+-- Laws of the reader of texts.
+pub mod Answers
