@@ -35,21 +35,12 @@ kind-tests a [] = refl
 kind-tests a (c ∷ w) =
     kind-by (isLetter c) (eqb c openingSet) (eqb c semicolon) (eqb c bar) (eqb c asterisk) (listed (eventOf c ∷ [])) (setFrom a w)
 
-abbrev pub setBy : (letter set : Bool) → (m n : ℕ) → ℕ
-setBy letter set m n = cond letter m (cond set n 0)
-
-set-by : (letter set semi or star : Bool) (m n : ℕ) → setOf (itemBy letter set semi or star m n) ≡ setBy letter set m n
-unfolding itemBy
-set-by true set semi or star m n = refl
-set-by false true semi or star m n = refl
-set-by false false true or star m n = refl
-set-by false false false true star m n = refl
-set-by false false false false true m n = refl
-set-by false false false false false m n = refl
-
-pub set-tests : (a : ℕ) (w : List ℕ)
-    → setOf (itemFrom a w) ≡ setBy (startsWithLetter w) (startsWith openingSet w) (listed (eventOf (place w 0) ∷ [])) (setFrom a (drop 1 w))
-unfolding itemBy
-set-tests a [] = refl
-set-tests a (c ∷ w) =
-    set-by (isLetter c) (eqb c openingSet) (eqb c semicolon) (eqb c bar) (eqb c asterisk) (listed (eventOf c ∷ [])) (setFrom a w)
+pub set-none : (a : ℕ) (w : List ℕ) → startsWithLetter w ≡ false → startsWith openingSet w ≡ false → setOf (itemFrom a w) ≡ 0
+set-none a [] e q = refl
+set-none a (c ∷ w) e q = rw (e, q) (go (eqb c semicolon) (eqb c bar) (eqb c asterisk))
+  where
+    go : (semi or star : Bool) → setOf (cond semi sequence (cond or choice (cond star repeat empty))) ≡ 0
+    go true or star = refl
+    go false true star = refl
+    go false false true = refl
+    go false false false = refl

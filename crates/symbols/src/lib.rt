@@ -87,7 +87,7 @@ pub fn items_by(text: &[u8], alphabet: u32, order: &[u8; 256], count: usize) -> 
     let mut items = blank();
     let mut i: usize = 0;
     while i < count {
-        let at = order[i] as usize;
+        let at = sections::byte(order[i]);
         items.kind[i] = kind_from(text, at);
         items.set[i] = set_from(text, at, alphabet);
         i += 1;
