@@ -37,7 +37,7 @@ fn listed_from(text: &[u8], from: usize) -> u32
     set
 }
 
-// The kind of the item that begins at the place `at`; none begins there: 0.
+// The kind of the item that begins at the place `at`, 0 where none begins.
 pub fn kind_from(text: &[u8], at: usize) -> u8
     ensures { λ r. ⌜ ((a : ℕ) → r ≡ kindOf (itemFrom a (drop at (now (text .entry))))) ⌝ }
 {

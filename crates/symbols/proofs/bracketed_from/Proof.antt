@@ -11,10 +11,6 @@ use Rattle.leaves.proofs.Bytes.{starts-within, starts-cons}
 use borrow.Author.Needs.{needs}
 use Rattle.symbols.proofs.bracketed_from.Statement.{statement}
 use Rattle.symbols.proofs.bracketed_from.Tie as tie
-use Rattle.symbols.proofs.bracketed_from.Reads as reads
-use Rattle.symbols.proofs.bracketed_from.Lts as lts
-use Rattle.leaves.proofs.is_at.Reads as is-at-reads
-use Rattle.symbols.proofs.listed_from.Reads as listed-from-reads
 
 is-at-requires : tie.Need-is-at-requires
 is-at-requires c κs = search needs

@@ -1,6 +1,6 @@
 -- `has_strange` gathers the tests of the bytes: after i turns it has tested the letters of the first i. Assumes nothing.
 use mathlib.Core.Path.{_≡_, refl, ap, _∙_}
-use mathlib.Core.Bool.{Bool, not}
+use mathlib.Core.Bool.{not}
 use mathlib.Core.List.{List}
 use Prim.Native.Nat.{ℕ, _-_, _≤_}
 use native.Mathlib.Omega.{arith}
@@ -13,9 +13,6 @@ use Rattle.symbols.proofs.Letters.{any-more}
 use borrow.Author.Needs.{needs}
 use Rattle.symbols.proofs.has_strange.Statement.{statement}
 use Rattle.symbols.proofs.has_strange.Tie as tie
-use Rattle.symbols.proofs.has_strange.Reads as reads
-use Rattle.symbols.proofs.has_strange.Lts as lts
-use Rattle.symbols.proofs.strange_at.Reads as strange-at-reads
 
 abbrev Inv-loop : tie.InvT-loop
 Inv-loop text alphabet found₀ i₀ found i = (i ≤ length text) × (found ≡ any (λ e. not (has alphabet e)) (typedLetters (take i text)))

@@ -1,12 +1,12 @@
 -- `kind_from` goes by tests of the first byte. Assumes nothing.
 use mathlib.Core.Path.{_≡_, sym, _∙_}
-use mathlib.Core.Bool.{Bool, true, false, _||_}
+use mathlib.Core.Bool.{Bool, false, _||_}
 use mathlib.Core.List.{List}
 use Prim.Native.Nat.{ℕ}
 use lib.ListN.{drop}
-use Rattle.grammar.specs.Grammar.{semicolon, bar, asterisk, openingSet}
+use Rattle.grammar.specs.Grammar.{semicolon, bar, openingSet}
 use Rattle.grammar.specs.Ways.{startsWith, startsWithLetter}
-use Rattle.symbols.proofs.Tests.{kindBy, kind-tests}
+use Rattle.symbols.proofs.Tests.{kind-tests}
 use borrow.Author.Needs.{needs}
 use Rattle.symbols.proofs.kind_from.Statement.{statement}
 use Rattle.symbols.proofs.kind_from.Tie as tie

@@ -15,12 +15,6 @@ use Rattle.symbols.proofs.Tests.{set-none}
 use borrow.Author.Needs.{needs}
 use Rattle.symbols.proofs.set_from.Statement.{statement}
 use Rattle.symbols.proofs.set_from.Tie as tie
-use Rattle.symbols.proofs.set_from.Reads as reads
-use Rattle.symbols.proofs.set_from.Lts as lts
-use Rattle.leaves.proofs.is_at.Reads as is-at-reads
-use Rattle.leaves.proofs.letter_at.Reads as letter-at-reads
-use Rattle.symbols.proofs.bracketed_from.Reads as bracketed-from-reads
-use Rattle.symbols.proofs.single.Reads as single-reads
 
 letter-at-requires : tie.Need-letter-at-requires
 letter-at-requires c κs = search needs

@@ -1,22 +1,18 @@
 -- `strange_at` tests a letter, and no other byte. Assumes nothing.
 use mathlib.Core.Path.{_≡_, sym, ap, _∙_}
-use mathlib.Core.Bool.{Bool, true, false, not}
+use mathlib.Core.Bool.{true, not}
 use mathlib.Core.List.{List}
 use Prim.Native.Nat.{ℕ}
 use native.Mathlib.Omega.{arith}
 use lib.ListN.{drop}
 use Rattle.masks.specs.Mask.{has}
 use Rattle.rows.specs.Rows.{place}
-use Rattle.grammar.specs.Ways.{isLetter, startsWithLetter}
+use Rattle.grammar.specs.Ways.{startsWithLetter}
 use Rattle.leaves.proofs.Bytes.{letter-within}
 use Rattle.symbols.proofs.Letters.{here-letter, here-event, here-other, any-letter, any-other}
 use borrow.Author.Needs.{needs}
 use Rattle.symbols.proofs.strange_at.Statement.{statement}
 use Rattle.symbols.proofs.strange_at.Tie as tie
-use Rattle.symbols.proofs.strange_at.Reads as reads
-use Rattle.symbols.proofs.strange_at.Lts as lts
-use Rattle.leaves.proofs.letter_at.Reads as letter-at-reads
-use Rattle.masks.proofs.has.Reads as has-reads
 
 letter-at-requires : tie.Need-letter-at-requires
 letter-at-requires c κs = search needs
