@@ -50,18 +50,18 @@ unfolding listed
 listed-single e = or-zero-r (2 ^ e)
 
 -- one letter more is taken
-pub listed-more : (set : ℕ) (l : List ℕ) (i : ℕ) → startsWithLetter (drop i l) ≡ true
+pub listed-turn : (set : ℕ) (l : List ℕ) (i : ℕ) → startsWithLetter (drop i l) ≡ true
     → bitOr set (listed (letters (drop i l))) ≡ bitOr (bitOr set (2 ^ eventOf (place l i))) (listed (letters (drop (i + 1) l)))
 unfolding listed
-listed-more set l i e =
+listed-turn set l i e =
     ap (λ (w : List ℕ). bitOr set (listed (letters w))) (from-here l i (letter-within l i e))
     ∙ ap (λ (es : List ℕ). bitOr set (listed es)) (letters-letter (place l i) (drop (i + 1) l) (here-letter l i e))
     ∙ sym (or-assoc set (2 ^ eventOf (place l i)) (listed (letters (drop (i + 1) l))))
 
 -- none is left
-pub listed-all : (set : ℕ) (w : List ℕ) → startsWithLetter w ≡ false → bitOr set (listed (letters w)) ≡ set
+pub listed-end : (set : ℕ) (w : List ℕ) → startsWithLetter w ≡ false → bitOr set (listed (letters w)) ≡ set
 unfolding listed
-listed-all set w e = ap (λ (es : List ℕ). bitOr set (listed es)) (letters-none w e) ∙ or-zero-r set
+listed-end set w e = ap (λ (es : List ℕ). bitOr set (listed es)) (letters-none w e) ∙ or-zero-r set
 
 -- ---- a test of each letter
 

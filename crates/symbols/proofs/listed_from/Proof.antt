@@ -9,7 +9,7 @@ use lib.ListN.{length, drop}
 use Rattle.grammar.specs.Meaning.{listed}
 use Rattle.grammar.specs.Ways.{startsWithLetter, letters}
 use Rattle.leaves.proofs.Bytes.{letter-within}
-use Rattle.symbols.proofs.Letters.{here-letter, listed-more, listed-all}
+use Rattle.symbols.proofs.Letters.{here-letter, listed-turn, listed-end}
 use borrow.Author.Needs.{needs}
 use Rattle.symbols.proofs.listed_from.Statement.{statement}
 use Rattle.symbols.proofs.listed_from.Tie as tie
@@ -52,13 +52,13 @@ loop-again c =
     let t = c .before .before in
     let loop = t .before .before .loop in
     loop .inv
-    ∙ listed-more (loop .set) (text t) (loop .at) (letter t)
+    ∙ listed-turn (loop .set) (text t) (loop .at) (letter t)
     ∙ ap (λ (n : ℕ). bitOr (bitOr (loop .set) n) (listed (letters (drop (loop .at + 1) (text t))))) (sym (c .single .ensures))
 
 returns : tie.Need-returns Inv-loop μ-loop
 returns c =
     let loop = c .before .before .loop in
-    sym (loop .inv ∙ listed-all (loop .set) _ (sym (c .before .letter-at .ensures) ∙ c .if1 .left))
+    sym (loop .inv ∙ listed-end (loop .set) _ (sym (c .before .letter-at .ensures) ∙ c .if1 .left))
 
 pub listed-from-spec : {M : Type 1} → statement M
 listed-from-spec =
