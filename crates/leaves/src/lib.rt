@@ -25,7 +25,7 @@ fn is_letter(c: u8) -> bool
 }
 
 // Whether a letter stands at the place `at`.
-fn letter_at(text: &[u8], at: usize) -> bool
+pub fn letter_at(text: &[u8], at: usize) -> bool
     ensures { λ r. ⌜ r ≡ startsWithLetter (drop at (now (text .entry))) ⌝ }
 {
     if at < text.len() {
