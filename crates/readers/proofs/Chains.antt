@@ -5,6 +5,7 @@ use mathlib.Core.List.{List, [], _∷_, _++_}
 use Prim.Native.Nat.{ℕ, _+_, _-_, _*_, _≤_, _<_}
 use native.Mathlib.Omega.{arith}
 use lib.ListN.{length, drop, set, length-set}
+use Rattle.rows.specs.Rows.{row}
 use Rattle.grammar.specs.Grammar.{Tree, opening, closing}
 use Rattle.grammar.specs.Meaning.{itemsOf}
 use Rattle.grammar.specs.Ways.{
@@ -34,7 +35,7 @@ use Rattle.grammar.specs.Ways.{
 use Rattle.leaves.proofs.Bytes.{starts-cons, starts-within}
 use Rattle.readers.specs.declared.Reached.{Reached}
 use Rattle.readers.specs.declared.Reached.the-variants.{Broken, Next}
-use Rattle.readers.specs.Readers.{Lent, Closes, Onward, Went}
+use Rattle.readers.specs.Readers.{Lent, Closes, Onward, Went, Read}
 use Rattle.readers.proofs.Orders.{joined-on}
 
 -- the reader of a chain that begins at `from` stands at `at`, behind the operands of a tree
@@ -123,3 +124,10 @@ module _ (text : List ℕ) (at : ℕ) (e : startsWith opening (drop at text) ≡
         places = places;
         items = λ a. so .2 .items a (itemsBy a text before count) (f .items a);
       }
+
+-- ---- from the beginning
+
+pub from-start : (text before after : List ℕ) (r : Reached) → Went text 0 0 before after (chain choices) r → Read text after r
+unfolding itemsBy row
+from-start text before after Broken w = w
+from-start text before after (Next end n) f = record { tree = f .tree; way = f .way; within = f .within; items = f .items }

@@ -7,7 +7,7 @@ use lib.ListN.{length, drop}
 use Rattle.regex.specs.Items.{Item}
 use Rattle.grammar.specs.Grammar.{Tree, closing}
 use Rattle.grammar.specs.Meaning.{itemsOf}
-use Rattle.grammar.specs.Ways.{Outcome, broken, upTo, startsWith, stars, itemsBy, Task, Way}
+use Rattle.grammar.specs.Ways.{Outcome, broken, upTo, startsWith, stars, chain, choices, itemsBy, Task, Way}
 use Rattle.readers.specs.declared.Reached.{Reached}
 use Rattle.readers.specs.declared.Reached.the-variants.{Broken, Next}
 
@@ -53,3 +53,14 @@ module _ (text : List ℕ) (at count : ℕ) (before after : List ℕ) where
   abbrev pub Went : Task → Reached → Type 0
   Went task Broken = Way task (drop at text) broken
   Went task (Next next n) = Onward task next n
+
+-- all that is read from the beginning of a text: its first `end` bytes are a choice, and the order has the n items of its tree
+pub record Came (text order : List ℕ) (end n : ℕ) : Type 0 where
+  pub tree : Tree
+  pub way : Way (chain choices) text (upTo tree (drop end text))
+  pub within : end ≤ length text
+  pub items : (a : ℕ) → itemsBy a text order n ≡ itemsOf a tree
+
+abbrev pub Read : (text order : List ℕ) → Reached → Type 0
+Read text order Broken = Way (chain choices) text broken
+Read text order (Next end n) = Came text order end n

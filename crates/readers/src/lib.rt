@@ -8,7 +8,7 @@ ghost use Prim.Native.Nat.{_≤_};
 ghost use lib.ListN.{length, drop};
 ghost use Rattle.grammar.specs.Grammar.{opening};
 ghost use Rattle.grammar.specs.Ways.{startsWith, chain, choices, sequences, oneUnit};
-ghost use Rattle.readers.specs.Readers.{Lent, Starred, Closes, Went};
+ghost use Rattle.readers.specs.Readers.{Lent, Starred, Closes, Went, Read};
 
 // Where a reader has come to: the next place of the text, and how many items there are. The items stand in a lent order, each as
 // the place of its first byte: the readers hand on nothing that is large.
@@ -98,7 +98,7 @@ fn sequence(text: &[u8], from: usize, order: &mut [u8; 256], already: usize) -> 
 }
 
 // A choice: sequences, a `|` between them.
-pub fn choice(text: &[u8], from: usize, order: &mut [u8; 256], already: usize) -> Reached
+fn choice(text: &[u8], from: usize, order: &mut [u8; 256], already: usize) -> Reached
     requires { ⌜ Lent (now text) (now order) from already ⌝ }
     ensures { λ r. ⌜ Went (now (text .entry)) from already (now (order .entry)) (now (order .exit)) (chain choices) r ⌝ }
 {
@@ -118,4 +118,12 @@ pub fn choice(text: &[u8], from: usize, order: &mut [u8; 256], already: usize) -
         count = n + 1;
     }
     Reached::Next(at, count)
+}
+
+// What a text begins with, in a lent order that holds nothing yet.
+pub fn read_choice(text: &[u8], order: &mut [u8; 256]) -> Reached
+    requires { ⌜ (length (now text) ≤ 255) × (length (now order) ≡ 256) ⌝ }
+    ensures { λ r. ⌜ Read (now (text .entry)) (now (order .exit)) r ⌝ }
+{
+    choice(text, 0, order, 0)
 }

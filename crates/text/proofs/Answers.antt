@@ -3,19 +3,24 @@ use mathlib.Core.Path.{_≡_, refl, sym, ap, subst, _∙_}
 use mathlib.Core.Bool.{Bool, true, false, not, cond}
 use mathlib.Core.List.{List, [], _∷_}
 use mathlib.Core.Option.{Option, none, some}
-use Prim.Native.Nat.{ℕ, _≤_, _<_}
+use Prim.Native.Nat.{ℕ, _+_, _≤_, _<_, min}
+use native.Mathlib.Omega.{arith}
 use borrow.Author.Tests.{lt-ltb, le-ltb}
-use lib.ListN.{length}
+use lib.ListN.{length, drop, drop-of-length-le}
 use Rattle.masks.specs.Mask.{has}
+use Rattle.rows.specs.Rows.{place}
+use Rattle.rows.proofs.Rows.{row-length}
 use Rattle.plan.specs.Checks.{first, orElse, any}
 use Rattle.items.specs.declared.ItemsRead.{ItemsRead}
 use Rattle.items.specs.Tables.{answered}
 use Rattle.grammar.specs.Grammar.{Tree, Reads, choice, Reading}
 use Rattle.grammar.specs.Meaning.{itemsOf, lettersOf, unreadable, manyItems, strangeLetter, textRefusals, typedItems}
-use Rattle.grammar.specs.Ways.{broken, upTo, chain, choices, Way, typedLetters}
+use Rattle.grammar.specs.Ways.{broken, upTo, chain, choices, Way, itemsBy, typedLetters}
 use Rattle.grammar.proofs.Unique.{way-reading}
 use Rattle.grammar.proofs.Letters.{reads-letters}
 use Rattle.grammar.proofs.Every.{every-text}
+use Rattle.leaves.proofs.Bytes.{from-here}
+use Rattle.readers.specs.Readers.{Came}
 use Rattle.text.specs.Typed.{Typed}
 
 module _ (w : List ℕ) (a : ℕ) where
@@ -66,3 +71,24 @@ module _ (w : List ℕ) (a : ℕ) where
       pub all-items : {r : ItemsRead} → any (λ e. not (has a e)) (typedLetters w) ≡ false → r ≡ answered none (itemsOf a t) → Typed w a r
       all-items s q =
           typed (some t) tree (refusal (some t) (le-ltb 255 (length w) short) (le-ltb 64 (length (itemsOf a t)) few) (strange ∙ s)) q
+
+-- ---- what was read, in an order of places
+
+-- a text of which a byte is left
+pub left-over : (text order : List ℕ) (end n : ℕ) (f : Came text order end n) → end < length text
+    → Way (chain choices) text (upTo (f .tree) (place text end ∷ drop (end + 1) text))
+left-over text order end n f h = subst (λ (r : List ℕ). Way (chain choices) text (upTo (f .tree) r)) (from-here text end h) (f .way)
+
+-- a text of which none is
+pub whole : (text order : List ℕ) (end n : ℕ) (f : Came text order end n) → length text ≤ end → Way (chain choices) text (upTo (f .tree) [])
+whole text order end n f h =
+    subst (λ (r : List ℕ). Way (chain choices) text (upTo (f .tree) r)) (drop-of-length-le text {i = end} h) (f .way)
+
+pub items-counted : (a : ℕ) (text order : List ℕ) (end n : ℕ) (f : Came text order end n) → length (itemsOf a (f .tree)) ≡ n
+unfolding itemsBy
+items-counted a text order end n f = sym (ap length (f .items a)) ∙ row-length _ n
+
+pub items-kept : (a : ℕ) (text order : List ℕ) (end n : ℕ) (f : Came text order end n) → n ≤ 64 → itemsBy a text order (min n 64) ≡ itemsOf a (f .tree)
+items-kept a text order end n f h =
+    let e : min n 64 ≡ n = omega arith in
+    ap (itemsBy a text order) e ∙ f .items a

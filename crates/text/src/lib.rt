@@ -1,6 +1,6 @@
 // The reader of typed patterns: the refusals 18 to 20, or the items.
-use items::none_read;
 use items::ItemsRead;
+use items::none_read;
 use plan::Outcome;
 use readers::Reached;
 ghost use Rattle.text.specs.Typed.{Typed};
@@ -13,7 +13,7 @@ pub fn read_text(text: &[u8], alphabet: u32) -> ItemsRead
         return none_read(18);
     }
     let mut order = [0u8; 256];
-    let read = readers::choice(text, 0, &mut order, 0);
+    let read = readers::read_choice(text, &mut order);
     let Reached::Next(end, count) = read else {
         return none_read(18);
     };
