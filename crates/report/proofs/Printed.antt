@@ -1,4 +1,4 @@
--- Each plan has one line, and refusal 17 has no part in it. Assumes nothing.
+-- Each plan has one line, and each plan and text have one; refusal 17 has no part in them. Assumes nothing.
 use mathlib.Core.Path.{_≡_, refl, sym, ap, _∙_}
 use mathlib.Core.Bool.{Bool, cond}
 use mathlib.Core.List.{List}
@@ -8,29 +8,50 @@ use borrow.Author.Tests.{le-ltb}
 use lib.ListN.{replicate}
 use Rattle.sections.specs.Layout.{planOf}
 use Rattle.plan.specs.Checks.{refuse, first, orElse}
-use Rattle.plan.proofs.Tests.{both-none, first-last}
+use Rattle.plan.proofs.Tests.{first-last}
 use Rattle.plan.proofs.Legality.{legal}
 use Rattle.pattern.specs.Refusals.{readable, tooManyStates, acceptable}
 use Rattle.pattern.proofs.Part.{before-items}
 use Rattle.verdict.specs.declared.Answer.{Answer}
-use Rattle.verifier.specs.Order.{shortRow, judgeable}
-use Rattle.verifier.proofs.Unique.{judged-unique}
+use Rattle.verifier.specs.Order.{Pattern, own, expressionBy, textRefusal, manyStates, judgeable}
+use Rattle.verifier.specs.Judged.{Promise, Judged, JudgedText}
+use Rattle.verifier.specs.Analysis.{lateRefusal}
+use Rattle.verifier.proofs.Refusals.{in-order}
+use Rattle.verifier.proofs.Unique.{Determined, judged-unique}
+use Rattle.typed.proofs.Unique.{typed-unique}
 use Rattle.line.specs.declared.Line.{Line}
 use Rattle.line.specs.Line.{lineOf}
 use Rattle.line.specs.Array.{lineArray}
 use Rattle.report.specs.Reports.{Reports}
 
-pub reports-unique : (b : List ℕ) (l m : Line) → Reports b l → Reports b m → l ≡ m
-reports-unique b l m x y =
-    x .printed ∙ ap (λ (a : Answer). lineArray (lineOf a)) (judged-unique b (replicate 256 0) (x .answer) (y .answer) (x .row) (y .row) (x .judged) (y .judged) .0)
+or-else-none : (x : Option ℕ) → orElse x none ≡ x
+or-else-none none = refl
+or-else-none (some n) = refl
+
+one-line : (P : Promise) → Determined P → (l m : Line) → Reports P l → Reports P m → l ≡ m
+one-line P one l m x y =
+    x .printed ∙ ap (λ (a : Answer). lineArray (lineOf a)) (one (replicate 256 0) (x .answer) (y .answer) (x .row) (y .row) (x .judged) (y .judged) .0)
     ∙ sym (y .printed)
 
--- a row of 256 places is long enough for every plan: the refusals are those of the plan on its own, 1 to 16
-pub enough-places : (b : List ℕ) → first (judgeable 256) b ≡ first acceptable b
-enough-places b = first-last acceptable (refuse 17 (shortRow 256)) b ∙ go (first acceptable b) refl
+pub reports-unique : (b : List ℕ) (l m : Line) → Reports (Judged own b) l → Reports (Judged own b) m → l ≡ m
+reports-unique b = one-line (Judged own b) (judged-unique own b)
+
+pub text-reports-unique : (b w : List ℕ) (l m : Line) → Reports (JudgedText b w) l → Reports (JudgedText b w) m → l ≡ m
+text-reports-unique b w = one-line (JudgedText b w) (typed-unique b w)
+
+-- a row of 256 places is long enough for every plan: the refusals are those before 17
+pub enough-places : (q : Pattern) (b : List ℕ)
+    → first (judgeable q 256) b ≡ orElse (first readable b) (orElse (textRefusal q b) (refuse 16 (manyStates q) b))
+enough-places q b = in-order q 256 b ∙ go (first readable b) refl
   where
-    go : (o : Option ℕ) → first acceptable b ≡ o → orElse o (refuse 17 (shortRow 256) b) ≡ o
+    go : (o : Option ℕ) → first readable b ≡ o
+        → orElse o (orElse (textRefusal q b) (lateRefusal (planOf b) (expressionBy q b) 256)) ≡ orElse o (orElse (textRefusal q b) (refuse 16 (manyStates q) b))
     go (some n) e = refl
     go none e =
-        let read = both-none (first readable b) (refuse 16 tooManyStates b) (sym (first-last readable (refuse 16 tooManyStates) b) ∙ e) .0 in
-        ap (λ (t : Bool). cond t (some 17) none) (le-ltb 256 (planOf b .nodes) (legal b (before-items b read) .nodes))
+        ap (λ (t : Bool). orElse (textRefusal q b) (orElse (refuse 16 (manyStates q) b) (cond t (some 17) none)))
+        (le-ltb 256 (planOf b .nodes) (legal b (before-items b e) .nodes))
+        ∙ ap (orElse (textRefusal q b)) (or-else-none (refuse 16 (manyStates q) b))
+
+-- of a plan on its own 1 to 16
+pub own-refusals : (b : List ℕ) → first (judgeable own 256) b ≡ first acceptable b
+own-refusals b = enough-places own b ∙ sym (first-last readable (refuse 16 tooManyStates) b)

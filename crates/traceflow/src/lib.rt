@@ -3,7 +3,9 @@ use verdict::Answer;
 use verdict::Counts;
 ghost use mathlib.Core.Path.{_≡_};
 ghost use Prim.Native.Nat.{_≤_};
-ghost use Rattle.traceflow.specs.Exported.{truth, valuesOf, Exported, atEnd, placeOf};
+ghost use Rattle.verifier.specs.Order.{own};
+ghost use Rattle.verifier.specs.Judged.{Judged, JudgedText};
+ghost use Rattle.traceflow.specs.Exported.{truth, valuesOf, numberOf, valuesIn, Exported, atEnd, placeOf};
 
 // A truth value as a number.
 fn number(b: bool) -> u64
@@ -27,13 +29,10 @@ fn values(verified: bool, c: Counts) -> [u64; 7]
     ]
 }
 
-// The answer to a plan: 0 where it is judged, with the sets in the row and the values of the verdict in `counts`; else the number
-// of the first refusal that applies, with both as they were.
-#[no_mangle]
-pub extern "C" fn traceflow_judge(plan: &[u8], row: &mut [u64], counts: &mut [u64; 7]) -> u32
-    ensures { λ r. ⌜ Exported (now (plan .entry)) (now (row .entry)) (now (counts .entry)) r (now (row .exit)) (now (counts .exit)) ⌝ }
+// An answer as a number: that of a refusal, with `counts` as it was; or 0, with the values of the verdict in `counts`.
+fn tell(answer: Answer, counts: &mut [u64; 7]) -> u32
+    ensures { λ r. ⌜ (r ≡ numberOf answer) × (now (counts .exit) ≡ valuesIn answer (now (counts .entry))) ⌝ }
 {
-    let answer = verifier::judge(plan, row);
     match answer {
         Answer::Refused(n) => n,
         Answer::Verified(c) => {
@@ -45,6 +44,30 @@ pub extern "C" fn traceflow_judge(plan: &[u8], row: &mut [u64], counts: &mut [u6
             0
         }
     }
+}
+
+// The answer to a plan: 0 where it is judged, with the sets in the row and the values of the verdict in `counts`; else the number
+// of the first refusal that applies, with both as they were.
+#[no_mangle]
+pub extern "C" fn traceflow_judge(plan: &[u8], row: &mut [u64], counts: &mut [u64; 7]) -> u32
+    ensures { λ r. ⌜ Exported (Judged own (now (plan .entry))) (now (row .entry)) (now (counts .entry)) r (now (row .exit)) (now (counts .exit)) ⌝ }
+{
+    let answer = verifier::judge(plan, row);
+    tell(answer, counts)
+}
+
+// The same of a plan that is judged by a text.
+#[no_mangle]
+pub extern "C" fn traceflow_judge_text(
+    plan: &[u8],
+    text: &[u8],
+    row: &mut [u64],
+    counts: &mut [u64; 7],
+) -> u32
+    ensures { λ r. ⌜ Exported (JudgedText (now (plan .entry)) (now (text .entry))) (now (row .entry)) (now (counts .entry)) r (now (row .exit)) (now (counts .exit)) ⌝ }
+{
+    let answer = typed::judge_text(plan, text, row);
+    tell(answer, counts)
 }
 
 // The place of a part of `bytes` bytes at the end of `all`: its first byte and its length, 0 and 0 where it has none.

@@ -27,6 +27,7 @@ use Rattle.verdict.specs.declared.Counts.{Counts}
 use Rattle.verdict.specs.declared.Answer.{Answer}
 use Rattle.verdict.specs.declared.Answer.the-variants.{Refused, Verified, Inconclusive}
 use Rattle.verdict.specs.Verdict.{finalBelow, rounded}
+use Rattle.verifier.specs.Order.{own}
 use Rattle.verifier.specs.Judged.{Judged}
 use Rattle.verifier.proofs.Unique.{judged-unique}
 use Rattle.verifier.proofs.Evaluate.{Outcome, evaluate, evaluate-judged}
@@ -141,7 +142,7 @@ cases = judged ++ turnedDown ++ mistaken
 
 -- what two rounds of the rules give, which are enough for all of them
 abbrev found : Case → Option Outcome
-found c = evaluate 2 (c .bytes) (c .before)
+found c = evaluate own 2 (c .bytes) (c .before)
 
 abbrev said : Case → Option Outcome
 said c = some (c .answer, c .after)
@@ -151,10 +152,10 @@ unfolding bitsOf valueFrom fieldAt eventsFrom eventsAt row planOf first anyFrom 
 answers = refl
 
 -- the outcomes of the table are what the judge promises
-pub all-cases : {c : Case} → List·Memᴰ c cases → Judged (c .bytes) (c .before) (c .answer) (c .after)
-all-cases {c} m = evaluate-judged 2 (c .bytes) (c .before) (c .answer) (c .after) (agree found said answers m)
+pub all-cases : {c : Case} → List·Memᴰ c cases → Judged own (c .bytes) (c .before) (c .answer) (c .after)
+all-cases {c} m = evaluate-judged own 2 (c .bytes) (c .before) (c .answer) (c .after) (agree found said answers m)
 
 -- and it promises no others
-pub known : {c : Case} → List·Memᴰ c cases → (a : Answer) (after : List ℕ) → Judged (c .bytes) (c .before) a after
+pub known : {c : Case} → List·Memᴰ c cases → (a : Answer) (after : List ℕ) → Judged own (c .bytes) (c .before) a after
     → (a ≡ c .answer) × (after ≡ c .after)
-known {c} m a after j = judged-unique (c .bytes) (c .before) a (c .answer) after (c .after) j (all-cases m)
+known {c} m a after j = judged-unique own (c .bytes) (c .before) a (c .answer) after (c .after) j (all-cases m)

@@ -1,8 +1,8 @@
 -- A simple executable reading of the judge's promise, and that what it answers is what the promise asks for. Assumes nothing.
 use mathlib.Core.Path.{_≡_, refl, sym, subst, _∙_}
 use mathlib.Core.Bool.{Bool, true, false, _&&_, cond, and-eq-true-iff}
-use mathlib.Core.List.{List, [], _∷_, _++_}
-use mathlib.Core.Option.{Option, none, some, Option·some-injective, Option·none-ne-some}
+use mathlib.Core.List.{List}
+use mathlib.Core.Option.{Option, none, some, Option·some-injective, Option·none-ne-some, Option·some-ne-none}
 use Prim.Native.Nat.{ℕ, _≤_}
 use borrow.Author.Tests.{leb-true, ltb-false}
 use lib.Dec.{leb}
@@ -10,13 +10,13 @@ use lib.ListN.{length}
 use Rattle.rows.specs.Rows.{padded}
 use Rattle.sections.specs.Plan.{Plan}
 use Rattle.sections.specs.Layout.{planOf}
-use Rattle.plan.specs.Checks.{Check, refuse, first}
+use Rattle.plan.specs.Checks.{refuse, orElse, first}
 use Rattle.plan.specs.Legal.{Legal}
-use Rattle.plan.proofs.Tests.{first-none, both-none, first-append}
+use Rattle.plan.proofs.Tests.{both-none}
 use Rattle.plan.proofs.Legality.{legal}
 use Rattle.regex.specs.Expression.{Expression}
 use Rattle.automaton.specs.Automaton.{statesOf}
-use Rattle.pattern.specs.Refusals.{expressionOf, readable, overLimit, tooManyStates, acceptable}
+use Rattle.pattern.specs.Refusals.{readable, overLimit}
 use Rattle.pattern.proofs.Part.{before-items}
 use Rattle.graph.specs.Flow.{edgeRule}
 use Rattle.flow.proofs.Evaluate.{rounds, closed, evaluated}
@@ -24,11 +24,11 @@ use Rattle.verdict.specs.declared.Answer.{Answer}
 use Rattle.verdict.specs.declared.Answer.the-variants.{Refused}
 use Rattle.verdict.specs.Verdict.{verified}
 use Rattle.verdict.specs.Answer.{verdict}
-use Rattle.verifier.specs.Order.{shortRow, judgeable}
+use Rattle.verifier.specs.Order.{Pattern, expressionBy, textRefusal, manyStates, shortRow, judgeable}
 use Rattle.verifier.specs.Property.{listed, numbered, states, table, accepting}
 use Rattle.verifier.specs.Judged.{finalSet, countsOf, Answered, Judged}
-use Rattle.verifier.specs.Analysis.{written}
-use Rattle.verifier.proofs.Refusals.{turned-down}
+use Rattle.verifier.specs.Analysis.{lateRefusal, written}
+use Rattle.verifier.proofs.Refusals.{in-order, turned-down}
 use Rattle.verifier.proofs.Row.{answered}
 
 -- ---- the reading
@@ -51,37 +51,40 @@ abbrev outcome : (refused : Option ℕ) → (k : ℕ) → Plan → Expression �
 outcome (some n) k p r before = some (Refused n, before)
 outcome none k p r before = byRounds k p r before
 
-abbrev pub evaluate : (k : ℕ) → (b before : List ℕ) → Option Outcome
-evaluate k b before = outcome (first (judgeable (length before)) b) k (planOf b) (expressionOf b) before
+abbrev pub evaluate : Pattern → (k : ℕ) → (b before : List ℕ) → Option Outcome
+evaluate q k b before = outcome (first (judgeable q (length before)) b) k (planOf b) (expressionBy q b) before
 
 -- ---- where no refusal applies
 
--- where none of some checks and one more applies, none of them does, and not that one
-last-none : {A : Type 0} (cs : List (Check A)) (n : ℕ) (test : A → Bool) (a : A) → first (cs ++ (refuse n test ∷ [])) a ≡ none
-    → (first cs a ≡ none) × (test a ≡ false)
-last-none cs n test a e =
-    let parts = both-none (first cs a) (first (refuse n test ∷ []) a) (sym (first-append cs (refuse n test ∷ []) a) ∙ e) in
-    (parts .0, first-none n test [] a (parts .1) .0)
+-- a test without a refusal does not hold
+not-refused : (n : ℕ) (t : Bool) → cond t (some n) none ≡ none → t ≡ false
+not-refused n true e = absurd (Option·some-ne-none n e)
+not-refused n false e = refl
 
 within-limit : (o : Option (List ℕ)) → overLimit o ≡ false → o ≡ some (listed o)
 within-limit none e = cc
 within-limit (some es) e = refl
 
-module _ (b : List ℕ) (places : ℕ) (passed : first (judgeable places) b ≡ none) where
-  past-17 : (first acceptable b ≡ none) × (shortRow places b ≡ false)
-  past-17 = last-none acceptable 17 (shortRow places) b passed
+module _ (q : Pattern) (b : List ℕ) (places : ℕ) (passed : first (judgeable q places) b ≡ none) where
+  past-15 : (first readable b ≡ none) × (orElse (textRefusal q b) (lateRefusal (planOf b) (expressionBy q b) places) ≡ none)
+  past-15 = both-none (first readable b) _ (sym (in-order q places b) ∙ passed)
 
-  past-16 : (first readable b ≡ none) × (tooManyStates b ≡ false)
-  past-16 = last-none readable 16 tooManyStates b (past-17 .0)
+  past-20 : lateRefusal (planOf b) (expressionBy q b) places ≡ none
+  past-20 = both-none (textRefusal q b) _ (past-15 .1) .1
+
+  past-17 : (manyStates q b ≡ false) × (shortRow places b ≡ false)
+  past-17 =
+      let late = both-none (refuse 16 (manyStates q) b) (refuse 17 (shortRow places) b) past-20 in
+      (not-refused 16 (manyStates q b) (late .0), not-refused 17 (shortRow places b) (late .1))
 
   long-row : planOf b .nodes ≤ places
   long-row = ltb-false places (planOf b .nodes) (past-17 .1)
 
-  few-states : statesOf (expressionOf b) (planOf b .alphabet) ≡ some (numbered (planOf b) (expressionOf b))
-  few-states = within-limit (statesOf (expressionOf b) (planOf b .alphabet)) (past-16 .1)
+  few-states : statesOf (expressionBy q b) (planOf b .alphabet) ≡ some (numbered (planOf b) (expressionBy q b))
+  few-states = within-limit (statesOf (expressionBy q b) (planOf b .alphabet)) (past-17 .0)
 
   legal-plan : Legal (planOf b)
-  legal-plan = legal b (before-items b (past-16 .0))
+  legal-plan = legal b (before-items b (past-15 .0))
 
 -- ---- what the reading answers is what the promise asks for
 
@@ -90,21 +93,21 @@ let-through : {A : Type 0} (t : Bool) (x y : A) → cond t (some x) none ≡ som
 let-through true x y e = (refl, Option·some-injective x y e)
 let-through false x y e = absurd (Option·none-ne-some y e)
 
-module _ (k : ℕ) (b before : List ℕ) where
-  meets : (o : Option ℕ) → first (judgeable (length before)) b ≡ o → (x : Outcome) → outcome o k (planOf b) (expressionOf b) before ≡ some x
-      → Answered o (planOf b) (expressionOf b) before (x .0) (x .1)
+module _ (q : Pattern) (k : ℕ) (b before : List ℕ) where
+  meets : (o : Option ℕ) → first (judgeable q (length before)) b ≡ o → (x : Outcome) → outcome o k (planOf b) (expressionBy q b) before ≡ some x
+      → Answered o (planOf b) (expressionBy q b) before (x .0) (x .1)
   meets (some n) h x e =
-      subst (λ (y : Outcome). Answered (some n) (planOf b) (expressionOf b) before (y .0) (y .1)) (Option·some-injective (Refused n, before) x e)
-      (turned-down (some n) (planOf b) (expressionOf b) before before n refl refl)
+      subst (λ (y : Outcome). Answered (some n) (planOf b) (expressionBy q b) before (y .0) (y .1)) (Option·some-injective (Refused n, before) x e)
+      (turned-down (some n) (planOf b) (expressionBy q b) before before n refl refl)
   meets none h x e =
       let p = planOf b in
-      let r = expressionOf b in
+      let r = expressionBy q b in
       let sets = rounds p (table p r) edgeRule (states p r) k in
       let through = let-through _ _ x e in
       let tests = and-eq-true-iff (closed p (table p r) edgeRule (states p r) sets) (leb (length sets) 256) .0 (through .0) in
       subst (λ (y : Outcome). Answered none p r before (y .0) (y .1)) (through .1)
-      (answered p r (few-states b (length before) h) (legal-plan b (length before) h) (padded 256 sets)
-      (evaluated p (table p r) edgeRule (states p r) k sets refl (tests .0) (leb-true (length sets) 256 (tests .1))) before (long-row b (length before) h))
+      (answered p r (few-states q b (length before) h) (legal-plan q b (length before) h) (padded 256 sets)
+      (evaluated p (table p r) edgeRule (states p r) k sets refl (tests .0) (leb-true (length sets) 256 (tests .1))) before (long-row q b (length before) h))
 
-  pub evaluate-judged : (a : Answer) (after : List ℕ) → evaluate k b before ≡ some (a, after) → Judged b before a after
-  evaluate-judged a after e = meets (first (judgeable (length before)) b) refl (a, after) e
+  pub evaluate-judged : (a : Answer) (after : List ℕ) → evaluate q k b before ≡ some (a, after) → Judged q b before a after
+  evaluate-judged a after e = meets (first (judgeable q (length before)) b) refl (a, after) e

@@ -1,5 +1,6 @@
 -- Laws of the judge.
 pub mod Refusals
+pub mod Reader
 pub mod Copies
 pub mod Sound
 pub mod Row

@@ -13,8 +13,10 @@ use Rattle.plan.specs.Refusals.{tooShort, countsWrong, cutShort, filled, wrongS
 use Rattle.plan.proofs.Tests.{first-append, first-last, first-said}
 use Rattle.item.specs.Faults.{Point, cut, kindAt, setAt, itemAt, isEvents, strange, faults}
 use Rattle.items.specs.Refusals.{Read, faulty, upTo, Spot, pointOf, judged, oneMore, read, notOne, trailing, leftovers, refusalOf, itemsRefusal}
-use Rattle.pattern.specs.Refusals.{rest, badItems, readable, tooManyStates, acceptable}
-use Rattle.verifier.specs.Order.{shortRow, judgeable}
+use Rattle.grammar.specs.Meaning.{unreadable, manyItems, strangeLetter}
+use Rattle.pattern.specs.Refusals.{rest, badItems, readable}
+use Rattle.verifier.specs.Order.{Pattern, own, typed, textRefusal, manyStates, shortRow, judgeable}
+use Rattle.verifier.proofs.Refusals.{in-order}
 
 -- ---- checks in their order
 
@@ -91,18 +93,23 @@ items-above b =
     let n = planOf b .items in
     left-above (rest b) alphabet (read (rest b) alphabet n) (read-above (rest b) alphabet n)
 
--- ---- all
-
 readable-above : (b : List ℕ) → first readable b ≡ some 0 → ⊥
 readable-above b e = either-zero (first order b) (badItems b) (order-above b) (items-above b) (sym (first-last order badItems b) ∙ e)
 
-acceptable-above : (b : List ℕ) → first acceptable b ≡ some 0 → ⊥
-acceptable-above b e =
-    either-zero (first readable b) (refuse 16 tooManyStates b) (readable-above b) (refuse-above 15 tooManyStates b)
-    (sym (first-last readable (refuse 16 tooManyStates) b) ∙ e)
+-- ---- 18 to 20
+
+text-above : (q : Pattern) (b : List ℕ) → textRefusal q b ≡ some 0 → ⊥
+text-above own b = none-zero
+text-above (typed w o) b =
+    let a = planOf b .alphabet in
+    above 17 (λ (x : ℕ). unreadable w o) _ a (above 18 (manyItems o) _ a (above 19 (strangeLetter o) _ a (nothing-above a)))
+
+-- ---- all
 
 -- so the number 0 is free to stand for a verdict
-pub no-refusal-zero : (places : ℕ) (b : List ℕ) → first (judgeable places) b ≡ some 0 → ⊥
-no-refusal-zero places b e =
-    either-zero (first acceptable b) (refuse 17 (shortRow places) b) (acceptable-above b) (refuse-above 16 (shortRow places) b)
-    (sym (first-last acceptable (refuse 17 (shortRow places)) b) ∙ e)
+pub no-refusal-zero : (q : Pattern) (places : ℕ) (b : List ℕ) → first (judgeable q places) b ≡ some 0 → ⊥
+no-refusal-zero q places b e =
+    either-zero (first readable b) _ (readable-above b)
+    (either-zero (textRefusal q b) _ (text-above q b)
+    (either-zero (refuse 16 (manyStates q) b) (refuse 17 (shortRow places) b) (refuse-above 15 (manyStates q) b) (refuse-above 16 (shortRow places) b)))
+    (sym (in-order q places b) ∙ e)

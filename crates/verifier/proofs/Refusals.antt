@@ -1,7 +1,7 @@
--- The order of refusals: those of the reader come first, then 16, then 17. Assumes nothing.
-use mathlib.Core.Path.{_≡_, sym, ap, subst, _∙_}
+-- The order of refusals: those of the reader come first, then those of a text, then 16, then 17. Assumes nothing.
+use mathlib.Core.Path.{_≡_, refl, sym, ap, subst, _∙_}
 use mathlib.Core.Bool.{Bool, true, false, cond}
-use mathlib.Core.List.{List}
+use mathlib.Core.List.{List, [], _∷_}
 use mathlib.Core.Option.{Option, none, some, Option·none-ne-some}
 use Prim.Native.Nat.{ℕ, _<_, _≤_}
 use borrow.Author.Tests.{lt-ltb, le-ltb}
@@ -10,31 +10,38 @@ use lib.ListN.{length}
 use Rattle.sections.specs.Layout.{planOf}
 use Rattle.sections.specs.Plan.{Plan}
 use Rattle.plan.specs.Checks.{refuse, first, orElse}
-use Rattle.plan.proofs.Tests.{first-last}
+use Rattle.plan.proofs.Tests.{first-append, first-last}
 use Rattle.regex.specs.Expression.{Expression}
 use Rattle.automaton.specs.Automaton.{statesOf}
-use Rattle.pattern.specs.Refusals.{expressionOf, readable, overLimit, tooManyStates, acceptable}
+use Rattle.pattern.specs.Refusals.{readable, overLimit}
 use Rattle.verdict.specs.declared.Answer.{Answer}
 use Rattle.verdict.specs.declared.Answer.the-variants.{Refused}
-use Rattle.verifier.specs.Order.{shortRow, judgeable}
+use Rattle.verifier.specs.Order.{Pattern, expressionBy, textRefusal, manyStates, shortRow, judgeable}
 use Rattle.verifier.specs.Judged.{Answered, Judged}
 use Rattle.verifier.specs.Analysis.{lateRefusal}
 
 -- ---- the checks in their order
 
-module _ (places : ℕ) (b : List ℕ) where
-  in-order : (o : Option ℕ) → first readable b ≡ o
-      → first (judgeable places) b ≡ orElse (orElse o (refuse 16 tooManyStates b)) (refuse 17 (shortRow places) b)
-  in-order o e =
-      first-last acceptable (refuse 17 (shortRow places)) b
-      ∙ ap (λ (x : Option ℕ). orElse x (refuse 17 (shortRow places) b)) (first-last readable (refuse 16 tooManyStates) b)
-      ∙ ap (λ (x : Option ℕ). orElse (orElse x (refuse 16 tooManyStates b)) (refuse 17 (shortRow places) b)) e
+module _ (q : Pattern) (places : ℕ) (b : List ℕ) where
+  pub in-order : first (judgeable q places) b ≡ orElse (first readable b) (orElse (textRefusal q b) (lateRefusal (planOf b) (expressionBy q b) places))
+  unfolding first
+  in-order =
+      first-append readable (textRefusal q ∷ refuse 16 (manyStates q) ∷ refuse 17 (shortRow places) ∷ []) b
+      ∙ ap (λ (x : Option ℕ). orElse (first readable b) (orElse (textRefusal q b) (orElse (refuse 16 (manyStates q) b) x))) (first-last [] (refuse 17 (shortRow places)) b)
 
-  pub refused-early : (n : ℕ) → first readable b ≡ some n → first (judgeable places) b ≡ some n
-  refused-early n e = in-order (some n) e
+  after : (o t : Option ℕ) → first readable b ≡ o → textRefusal q b ≡ t
+      → first (judgeable q places) b ≡ orElse o (orElse t (lateRefusal (planOf b) (expressionBy q b) places))
+  after o t e h = in-order ∙ (λ i. orElse (e i) (orElse (h i) (lateRefusal (planOf b) (expressionBy q b) places)))
 
-  refused-late : first readable b ≡ none → first (judgeable places) b ≡ lateRefusal (planOf b) (expressionOf b) places
-  refused-late e = in-order none e
+  pub refused-early : (n : ℕ) → first readable b ≡ some n → first (judgeable q places) b ≡ some n
+  refused-early n e = after (some n) (textRefusal q b) e refl
+
+  module _ (read : first readable b ≡ none) where
+    pub refused-text : (n : ℕ) → textRefusal q b ≡ some n → first (judgeable q places) b ≡ some n
+    refused-text n e = after none (some n) read e
+
+    refused-late : textRefusal q b ≡ none → first (judgeable q places) b ≡ lateRefusal (planOf b) (expressionBy q b) places
+    refused-late e = after none none read e
 
 -- ---- 16, 17, or none of them
 
@@ -58,10 +65,11 @@ pub turned-down : (refused : Option ℕ) (p : Plan) (r : Expression) (before aft
     → Answered refused p r before (Refused n) after
 turned-down refused p r before after n e same = record { refusal = sym e; unchanged = λ m h. same; judged = λ v c h. absurd (Option·none-ne-some _ h) }
 
--- ---- what is left of the answer, where the reader has no refusal
+-- ---- what is left of the answer, where none of 1 to 15 applies, and none of 18 to 20
 
-pub judged-late : (b before : List ℕ) → first readable b ≡ none → (r : Expression) → r ≡ expressionOf b → (answer : Answer) (after : List ℕ)
-    → Answered (lateRefusal (planOf b) r (length before)) (planOf b) r before answer after → Judged b before answer after
-judged-late b before passed r e answer after h =
+pub judged-late : (q : Pattern) (b before : List ℕ) → first readable b ≡ none → textRefusal q b ≡ none → (r : Expression) → r ≡ expressionBy q b
+    → (answer : Answer) (after : List ℕ) → Answered (lateRefusal (planOf b) r (length before)) (planOf b) r before answer after
+    → Judged q b before answer after
+judged-late q b before read typed r e answer after h =
     let late = subst (λ (x : Expression). Answered (lateRefusal (planOf b) x (length before)) (planOf b) x before answer after) e h in
-    subst (λ (o : Option ℕ). Answered o (planOf b) (expressionOf b) before answer after) (sym (refused-late (length before) b passed)) late
+    subst (λ (o : Option ℕ). Answered o (planOf b) (expressionBy q b) before answer after) (sym (refused-late q (length before) b read typed)) late

@@ -15,15 +15,14 @@ use Rattle.sections.specs.Plan.{Plan}
 use Rattle.sections.specs.Layout.{planOf}
 use Rattle.plan.specs.Checks.{first}
 use Rattle.regex.specs.Expression.{Expression}
-use Rattle.pattern.specs.Refusals.{expressionOf}
 use Rattle.verdict.specs.declared.Counts.{Counts}
 use Rattle.verdict.specs.declared.Answer.{Answer}
 use Rattle.verdict.specs.declared.Answer.the-variants.{Refused, Verified, Inconclusive}
 use Rattle.verdict.specs.Verdict as verdicts
 use Rattle.verdict.specs.Answer.{refusalOf, verdictOf, verdict}
-use Rattle.verifier.specs.Order.{judgeable}
+use Rattle.verifier.specs.Order.{Pattern, expressionBy, judgeable}
 use Rattle.verifier.specs.Property.{accepting}
-use Rattle.verifier.specs.Judged.{Holds, Verdict, finalSet, countsOf, Answered, Judged}
+use Rattle.verifier.specs.Judged.{Holds, Verdict, finalSet, countsOf, Answered, Promise, Judged}
 
 -- ---- answers
 
@@ -88,6 +87,10 @@ answered-unique none p r before x y u v a b =
     let e = verdicts-equal p r before u v (s .0) (t .0) (s .1) (t .1) (a .judged (s .0) (s .1) (s .2)) (b .judged (t .0) (t .1) (t .2)) in
     (s .3 ∙ e .0 ∙ sym (t .3), e .1)
 
--- of the bytes of a plan and a lent row
-pub judged-unique : (b before : List ℕ) (x y : Answer) (u v : List ℕ) → Judged b before x u → Judged b before y v → (x ≡ y) × (u ≡ v)
-judged-unique b before = answered-unique (first (judgeable (length before)) b) (planOf b) (expressionOf b) before
+-- two outcomes that meet a promise are equal, in the answer and in the row
+abbrev pub Determined : Promise → Type 0
+Determined P = (before : List ℕ) (x y : Answer) (u v : List ℕ) → P before x u → P before y v → (x ≡ y) × (u ≡ v)
+
+-- of the bytes of a plan, under one pattern
+pub judged-unique : (q : Pattern) (b : List ℕ) → Determined (Judged q b)
+judged-unique q b before = answered-unique (first (judgeable q (length before)) b) (planOf b) (expressionBy q b) before

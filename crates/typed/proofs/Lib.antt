@@ -1,0 +1,5 @@
+-- Laws of the judge of typed patterns.
+pub mod Postfix
+pub mod Reader
+pub mod Unique
+pub mod Same
