@@ -164,20 +164,28 @@ fn damaged(mut text: Text, random: &mut Random) -> Text {
     unknown(text.bytes, broken.then_some(Err(18)))
 }
 
-/// A bracket too few or too many, or a byte that no text has.
+/// Bytes that no text has one behind the other, be it in a set or not.
+const NEVER_TOGETHER: [&[u8]; 22] = [
+    b"()", b"|()", b"();", b")(", b"(;", b"(|", b"(*", b";)", b"|)", b";;", b"||", b";|", b";*",
+    b"*(", b"*a", b"a0", b"0a", b"00", b"a^", b"^^", b"^0", b"][",
+];
+
+/// A bracket too few or too many, a byte that no text has, or some that it has not together.
 fn break_grammar(text: &mut Vec<u8>, random: &mut Random) {
     let is_bracket = |&at: &usize| b"()[]".contains(&text[at]);
     let brackets: Vec<usize> = (0..text.len()).filter(is_bracket).collect();
-    if !brackets.is_empty() && random.one_in(3) {
+    if !brackets.is_empty() && random.one_in(4) {
         text.remove(random.pick(&brackets));
         return;
     }
-    let byte = match random.below(3) {
-        0 => random.pick(b"()[]"),
-        1 => random.pick(b" \t\n\0AZ19.+?-,:{`"),
-        _ => 128 + random.below(128) as u8,
+    let more = match random.below(4) {
+        0 => vec![random.pick(b"()[]")],
+        1 => vec![random.pick(b" \t\n\0AZ19.+?-,:{`")],
+        2 => vec![128 + random.below(128) as u8],
+        _ => random.pick(&NEVER_TOGETHER).to_vec(),
     };
-    text.insert(random.index(text.len() + 1), byte);
+    let at = random.index(text.len() + 1);
+    text.splice(at..at, more);
 }
 
 /// A byte dropped, doubled, changed or swapped with the next, or a cut.
