@@ -32,7 +32,7 @@ uint32_t traceflow_judge(const uint8_t *plan, size_t plan_bytes,
                          uint64_t counts[TRACEFLOW_COUNTS]);
 
 /* Judges a plan as traceflow_judge does, by a pattern typed as text in place of its own items. These must still pass the refusals
- * 10 to 15; then 18 to 20 and 16 are about the text. A text needs no byte at its end: one of no bytes is refused. */
+ * 10 to 15; then 18 to 20 and 16 are about the text. No zero has to end it. */
 uint32_t traceflow_judge_text(const uint8_t *plan, size_t plan_bytes,
                               const uint8_t *text, size_t text_bytes,
                               uint64_t *row, size_t row_places,
