@@ -6,6 +6,7 @@ mod patterns;
 mod report;
 mod timing;
 
+use differential::compare::independent_answer;
 use families::{Family, Member};
 use report::Line;
 use std::process::ExitCode;
@@ -47,10 +48,10 @@ fn measured(effort: Effort) -> Result<Vec<Line>, String> {
 }
 
 fn measure(family: &Family, member: &Member, effort: Effort) -> Result<Line, String> {
-    let answer = agreed(&member.plan)
-        .map_err(|what| format!("{} of {}: {what}", family.name, member.size))?;
+    let answer =
+        agreed(member).map_err(|what| format!("{} of {}: {what}", family.name, member.size))?;
     let judges = [timing::proved, timing::rust];
-    let [proved, rust] = timing::compare(&member.plan, judges, effort);
+    let [proved, rust] = timing::compare(member, judges, effort);
     Ok(Line {
         family: family.name,
         grows: family.grows,
@@ -63,10 +64,11 @@ fn measure(family: &Family, member: &Member, effort: Effort) -> Result<Line, Str
 }
 
 /// The answer that both implementations give, with the same row.
-fn agreed(plan: &[u8]) -> Result<Answer, String> {
+fn agreed(member: &Member) -> Result<Answer, String> {
+    let (plan, text) = (&member.plan, member.text.as_deref());
     let mut rows = [[u64::MAX; PLACES]; 2];
-    let proved = traceflow::judge(plan, &mut rows[0]);
-    let rust = same_kind(reference::judge(plan, &mut rows[1]));
+    let proved = traceflow::judge_by(plan, text, &mut rows[0]);
+    let rust = independent_answer(plan, text, &mut rows[1]);
     if proved != rust {
         return Err(format!("answers differ: {proved:?} and {rust:?}"));
     }
@@ -74,21 +76,4 @@ fn agreed(plan: &[u8]) -> Result<Answer, String> {
         return Err("the rows differ".to_string());
     }
     Ok(proved)
-}
-
-/// The Rust implementation's answer in the types of the proved one.
-fn same_kind(answer: reference::Answer) -> Answer {
-    let counts = |c: reference::Counts| traceflow::Counts {
-        states: c.states,
-        meetings: c.meetings,
-        ordering: c.ordering,
-        pairs: c.pairs,
-        fill: c.fill,
-        final_set: c.final_set,
-    };
-    match answer {
-        reference::Answer::Refused(number) => Answer::Refused(number),
-        reference::Answer::Verified(c) => Answer::Verified(counts(c)),
-        reference::Answer::Inconclusive(c) => Answer::Inconclusive(counts(c)),
-    }
 }

@@ -1,18 +1,23 @@
-//! One case of a run: a plan and the row lent with it, made from the seed and the number.
+//! One case of a run: a plan, a text to judge it by, and what is lent with them, made from the seed and the number.
 
 use crate::draft::Item;
 use crate::fault_in_bytes::{self, mangle, noise};
-use crate::layout::NODES;
+use crate::layout::{alphabet, NODES};
 use crate::random::Random;
 use crate::sound::{any_scale, sound};
+use crate::text::{self, Text};
 use crate::{fault_in_items, fault_in_jobs};
+use traceflow::Values;
 
 pub struct Case {
     pub plan: Vec<u8>,
-    /// The row's values before the plan is judged.
+    /// The row before the plan is judged.
     pub row: Vec<u64>,
-    /// The refusal that the one fault made on purpose must give.
+    /// The places for a verdict before.
+    pub values: Values,
+    /// The refusal that the one fault made on purpose must give under the plan's own pattern.
     pub expected: Option<u32>,
+    pub text: Text,
 }
 
 /// The refusal about the row.
@@ -24,8 +29,8 @@ pub fn make(seed: u64, number: u64) -> Case {
     let refusal = |random: &mut Random| random.within(1..=SHORT_ROW);
     match random.weighted(&[50, 22, 14, 10, 4]) {
         0 => {
-            let plan = sound(any_scale(random), random).encode();
-            unfaulted(plan, random)
+            let draft = sound(any_scale(random), random);
+            unfaulted(draft.encode(), &draft.items, random)
         }
         1 => {
             let fault = refusal(random);
@@ -38,18 +43,31 @@ pub fn make(seed: u64, number: u64) -> Case {
         3 => {
             let mut plan = sound(any_scale(random), random).encode();
             mangle(&mut plan, random);
-            unfaulted(plan, random)
+            unfaulted(plan, &[], random)
         }
-        _ => unfaulted(noise(random), random),
+        _ => unfaulted(noise(random), &[], random),
     }
 }
 
-fn unfaulted(plan: Vec<u8>, random: &mut Random) -> Case {
+/// A plan without a fault made on purpose; its items as far as they are known.
+fn unfaulted(plan: Vec<u8>, items: &[Item], random: &mut Random) -> Case {
     let length = row_length(&plan, random);
+    case(plan, items, length, None, random)
+}
+
+fn case(
+    plan: Vec<u8>,
+    items: &[Item],
+    places: usize,
+    expected: Option<u32>,
+    random: &mut Random,
+) -> Case {
     Case {
-        row: row(length, random),
+        row: (0..places).map(|_| random.bits()).collect(),
+        values: [0; 7].map(|_: u64| random.bits()),
+        text: text::make(alphabet(&plan), items, random),
         plan,
-        expected: None,
+        expected,
     }
 }
 
@@ -74,11 +92,8 @@ fn faulty(faults: &[u32], random: &mut Random) -> Case {
     } else {
         row_length(&plan, random)
     };
-    Case {
-        row: row(length, random),
-        plan,
-        expected: (made && faults.len() == 1).then(|| faults[0]),
-    }
+    let expected = (made && faults.len() == 1).then(|| faults[0]);
+    case(plan, &draft.items, length, expected, random)
 }
 
 /// A length of the row around the nodes that the head names, or any.
@@ -94,8 +109,4 @@ fn row_length(plan: &[u8], random: &mut Random) -> usize {
         6 => 257 + random.index(300),
         _ => random.index(300),
     }
-}
-
-fn row(length: usize, random: &mut Random) -> Vec<u64> {
-    (0..length).map(|_| random.bits()).collect()
 }

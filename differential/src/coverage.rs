@@ -1,11 +1,15 @@
 //! What a run has met: counted, printed, and asked for in a run of full length.
 
-use crate::layout::{kind, COUNTS};
+use crate::case::Case;
+use crate::compare::Answers;
+use crate::layout::{kind, COUNTS, NODES};
+use crate::text::MOST_BYTES;
 use std::fmt;
 use traceflow::{Answer, Counts};
 
-/// The refusals, numbered from 1.
+/// The last refusal of a plan under its own pattern, and under a text; they are numbered from 1.
 const REFUSALS: usize = 17;
+const REFUSALS_BY_TEXT: usize = 20;
 const KINDS: [&str; 2] = ["every", "none"];
 const VERDICTS: [&str; 2] = ["verified", "inconclusive"];
 const MANY_STATES: u32 = 60;
@@ -14,9 +18,7 @@ const MANY_MEETINGS: u32 = 10_000;
 #[derive(Default)]
 pub struct Coverage {
     plans: u64,
-    refused: [u64; REFUSALS + 1],
-    /// By kind, then by verdict.
-    verdicts: [[u64; 2]; 2],
+    own: Tally,
     many_states: u64,
     most_states: u32,
     many_meetings: u64,
@@ -25,24 +27,114 @@ pub struct Coverage {
     largest: u64,
     empty_final: u64,
     held_final: u64,
+    typed: Tally,
+    texts: Texts,
 }
 
-impl Coverage {
-    pub fn add(&mut self, plan: &[u8], answer: &Answer) {
-        self.plans += 1;
+/// How often each answer was given.
+#[derive(Default)]
+struct Tally {
+    refused: [u64; REFUSALS_BY_TEXT + 1],
+    /// By kind, then by verdict.
+    verdicts: [[u64; 2]; 2],
+}
+
+/// What the texts were like.
+#[derive(Default)]
+struct Texts {
+    /// Of refusal 18.
+    too_long: u64,
+    broken: u64,
+    /// Of refusal 20, with a strange letter in `[^ ]`.
+    left_out: u64,
+    /// Of the most bytes, and judged.
+    longest: u64,
+    /// Refused though short enough, for a plan that is refused itself.
+    faulty_twice: u64,
+    /// Refusal 16 where 17 would apply too.
+    short_row: u64,
+    /// Judged where the plan's own pattern has too many states.
+    own_refused: u64,
+    /// Judged, and its own items spelled.
+    own_spelled: u64,
+}
+
+impl Tally {
+    fn add(&mut self, plan: &[u8], answer: &Answer) {
         match answer {
             Answer::Refused(refusal) => {
                 if let Some(count) = self.refused.get_mut(*refusal as usize) {
                     *count += 1;
                 }
             }
-            Answer::Verified(counts) => self.add_verdict(plan, 0, counts),
-            Answer::Inconclusive(counts) => self.add_verdict(plan, 1, counts),
+            Answer::Verified(_) => self.verdicts[kind(plan)][0] += 1,
+            Answer::Inconclusive(_) => self.verdicts[kind(plan)][1] += 1,
         }
     }
 
-    fn add_verdict(&mut self, plan: &[u8], verdict: usize, counts: &Counts) {
-        self.verdicts[kind(plan)][verdict] += 1;
+    /// The refusals up to this one, then the verdicts.
+    fn asked(&self, refusals: usize, by: &str) -> Vec<(String, u64)> {
+        let refused = self.refused.iter().enumerate().take(refusals + 1).skip(1);
+        let mut asked: Vec<(String, u64)> = refused
+            .map(|(refusal, &count)| (format!("{by}refused {refusal}"), count))
+            .collect();
+        for (kind, counts) in KINDS.iter().zip(self.verdicts) {
+            for (verdict, count) in VERDICTS.iter().zip(counts) {
+                asked.push((format!("{by}{verdict}, kind {kind}"), count));
+            }
+        }
+        asked
+    }
+}
+
+impl Texts {
+    fn add(&mut self, case: &Case, answers: &Answers) {
+        let text = &case.text;
+        let long = text.bytes.len() > MOST_BYTES;
+        let refused = |refusal| answers.typed == Answer::Refused(refusal);
+        let judged = !matches!(answers.typed, Answer::Refused(_));
+        let nodes = NODES.read(&case.plan) as usize;
+        self.too_long += u64::from(refused(18) && long);
+        self.broken += u64::from(refused(18) && !long);
+        self.left_out += u64::from(refused(20) && text.strange_left_out);
+        self.longest += u64::from(judged && text.bytes.len() == MOST_BYTES);
+        let plan_refused = matches!(answers.own, Answer::Refused(1..=15));
+        self.faulty_twice += u64::from(plan_refused && !long && text.expected().is_some());
+        self.short_row += u64::from(refused(16) && case.row.len() < nodes);
+        self.own_refused += u64::from(judged && answers.own == Answer::Refused(16));
+        self.own_spelled += u64::from(judged && text.own);
+    }
+
+    fn asked(&self) -> Vec<(String, u64)> {
+        let asked = [
+            ("refused 18, too long", self.too_long),
+            ("refused 18, broken", self.broken),
+            ("refused 20, in [^ ]", self.left_out),
+            ("255 bytes, judged", self.longest),
+            ("faulty, and so is the plan", self.faulty_twice),
+            ("refused 16, row too short", self.short_row),
+            ("judged, own pattern 16", self.own_refused),
+            ("judged, the plan's own", self.own_spelled),
+        ];
+        asked
+            .into_iter()
+            .map(|(name, count)| (format!("text: {name}"), count))
+            .collect()
+    }
+}
+
+impl Coverage {
+    pub fn add(&mut self, case: &Case, answers: &Answers) {
+        self.plans += 1;
+        self.own.add(&case.plan, &answers.own);
+        if let Answer::Verified(counts) | Answer::Inconclusive(counts) = &answers.own {
+            self.add_verdict(&case.plan, counts);
+        }
+        self.typed.add(&case.plan, &answers.typed);
+        self.texts.add(case, answers);
+    }
+
+    fn add_verdict(&mut self, plan: &[u8], counts: &Counts) {
         self.many_states += u64::from(counts.states >= MANY_STATES);
         self.most_states = self.most_states.max(counts.states);
         self.many_meetings += u64::from(counts.meetings > MANY_MEETINGS);
@@ -55,15 +147,7 @@ impl Coverage {
 
     /// How often each thing asked for occurred.
     fn asked(&self) -> Vec<(String, u64)> {
-        let refusals = self.refused.iter().enumerate().skip(1);
-        let mut asked: Vec<(String, u64)> = refusals
-            .map(|(refusal, &count)| (format!("refused {refusal}"), count))
-            .collect();
-        for (kind, counts) in KINDS.iter().zip(self.verdicts) {
-            for (verdict, count) in VERDICTS.iter().zip(counts) {
-                asked.push((format!("{verdict}, kind {kind}"), count));
-            }
-        }
+        let mut asked = self.own.asked(REFUSALS, "");
         let others = [
             (format!("states {MANY_STATES} or more"), self.many_states),
             (format!("meetings over {MANY_MEETINGS}"), self.many_meetings),
@@ -72,6 +156,8 @@ impl Coverage {
             ("final set not empty".to_string(), self.held_final),
         ];
         asked.extend(others);
+        asked.extend(self.typed.asked(REFUSALS_BY_TEXT, "text: "));
+        asked.extend(self.texts.asked());
         asked
     }
 
@@ -84,7 +170,7 @@ impl Coverage {
 
 impl fmt::Display for Coverage {
     fn fmt(&self, out: &mut fmt::Formatter) -> fmt::Result {
-        let mut line = |name: &str, count: u64| writeln!(out, "{name:<28}{count:>8}");
+        let mut line = |name: &str, count: u64| writeln!(out, "{name:<32}{count:>8}");
         line("plans", self.plans)?;
         for (name, count) in self.asked() {
             line(&name, count)?;

@@ -44,6 +44,18 @@ pub enum Item {
     Star,
 }
 
+/// Items as the independent implementation has them.
+pub fn as_read(items: &[Item]) -> Vec<reference::Item> {
+    let each = items.iter().map(|item| match *item {
+        Item::Empty => reference::Item::Empty,
+        Item::Events(set) => reference::Item::Events(set),
+        Item::Sequence => reference::Item::Sequence,
+        Item::Choice => reference::Item::Choice,
+        Item::Star => reference::Item::Star,
+    });
+    each.collect()
+}
+
 impl Draft {
     /// The packed plan. A number too large for its field loses its high bits.
     pub fn encode(&self) -> Vec<u8> {

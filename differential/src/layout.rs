@@ -37,6 +37,7 @@ pub const COUNTS: [Count; 7] = [
 ];
 
 const KIND_AT: usize = 46;
+const ALPHABET_AT: usize = 54;
 
 impl Count {
     pub fn read(&self, plan: &[u8]) -> u32 {
@@ -51,6 +52,11 @@ impl Count {
 /// The kind that the head names: 0 every, 1 none.
 pub fn kind(plan: &[u8]) -> usize {
     field(plan, KIND_AT, 1) as usize
+}
+
+/// The alphabet; event e has weight 2^e.
+pub fn alphabet(plan: &[u8]) -> u32 {
+    field(plan, ALPHABET_AT, 31).reverse_bits()
 }
 
 /// A field of the plan; bits past the end count as zeros.

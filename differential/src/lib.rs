@@ -14,3 +14,5 @@ pub mod program;
 pub mod random;
 pub mod runs;
 mod sound;
+mod spelling;
+mod text;

@@ -7,7 +7,7 @@ use std::process::ExitCode;
 use std::time::Instant;
 
 const USAGE: &str = "usage: differential [--count N] [--seed S] [--start I] [--program FILE]
-Compares the library on N plans from number I on. Every run also explores small plans of the seed and tries the program, FILE or
+Compares the library on N plans, each with a text, from number I on. Every run also explores small plans of the seed and tries the program, FILE or
 target/bin/judge, on inputs of the seed, whatever N and I.";
 
 /// A run of so many plans or more must meet all that is asked for.
@@ -54,9 +54,9 @@ fn compare_all(options: &Options) -> Result<Coverage, String> {
     let mut coverage = Coverage::default();
     for number in (options.start..).take(options.count as usize) {
         let case = case::make(options.seed, number);
-        let answer = compare::compare(&case)
+        let answers = compare::compare(&case)
             .map_err(|report| format!("plan {number} of seed {}: {report}", options.seed))?;
-        coverage.add(&case.plan, &answer);
+        coverage.add(&case, &answers);
     }
     Ok(coverage)
 }
@@ -65,7 +65,7 @@ fn run(options: &Options) -> Result<(), String> {
     let begun = Instant::now();
     let coverage = compare_all(options)?;
     print!("{coverage}");
-    println!("{:<28}{:>8.1}", "seconds", begun.elapsed().as_secs_f64());
+    println!("{:<32}{:>8.1}", "seconds", begun.elapsed().as_secs_f64());
     let missing = coverage.missing();
     if options.count >= FULL_LENGTH && !missing.is_empty() {
         return Err(format!("never met: {}", missing.join("; ")));

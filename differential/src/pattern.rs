@@ -103,9 +103,14 @@ fn clocks(alphabet: u32, random: &mut Random) -> Vec<Item> {
         true => Item::Events(alphabet),
         false => events(alphabet, random),
     };
-    let mut items = repeated(&set, first);
+    clocks_of(&set, first, second)
+}
+
+/// Two such stars of these lengths.
+pub fn clocks_of(set: &Item, first: usize, second: usize) -> Vec<Item> {
+    let mut items = repeated(set, first);
     items.push(Item::Star);
-    items.extend(repeated(&set, second));
+    items.extend(repeated(set, second));
     items.extend([Item::Star, Item::Choice]);
     items
 }

@@ -9,11 +9,13 @@ mod bits;
 mod flow;
 mod pattern;
 mod plan;
+mod text;
 
 use std::ops::Range;
 
 pub use pattern::Automaton;
 pub use plan::{Item, Job, Kind, Link, Plan, Step};
+pub use text::read_text;
 
 use flow::Graph;
 
@@ -40,23 +42,12 @@ pub enum Answer {
 /// Judges a plan. On a verdict the first places of the row, one a node, hold
 /// the sets of states; on a refusal the row stays unchanged.
 pub fn judge(plan: &[u8], row: &mut [u64]) -> Answer {
-    let (plan, automaton) = match accept(plan) {
-        Ok(accepted) => accepted,
-        Err(number) => return Answer::Refused(number),
-    };
-    // Refusal 17: the row has fewer places than there are nodes.
-    let Some(places) = row.get_mut(..plan.nodes) else {
-        return Answer::Refused(17);
-    };
-    let graph = Graph::of(&plan);
-    let sets = graph.sets(&automaton);
-    let counts = count(&plan, &automaton, &graph, &sets);
-    places.copy_from_slice(&sets);
-    if verified(plan.kind, &automaton, counts.final_set) {
-        Answer::Verified(counts)
-    } else {
-        Answer::Inconclusive(counts)
-    }
+    answer(accept(plan), row)
+}
+
+/// Judges a plan as `judge` does, under a typed pattern in place of its own.
+pub fn judge_text(plan: &[u8], text: &[u8], row: &mut [u64]) -> Answer {
+    answer(accept_text(plan, text), row)
 }
 
 /// The place of the pattern's bytes in the plan, `0..0` where one of the
@@ -73,6 +64,36 @@ fn accept(bytes: &[u8]) -> Result<(Plan, Automaton), u32> {
     let plan = Plan::read(bytes)?;
     let automaton = Automaton::of(&plan)?;
     Ok((plan, automaton))
+}
+
+/// The plan and the automaton of a text, or the first refusal: 1 to 15 for
+/// the plan with its own items, then 18 to 20 and 16 for the text.
+fn accept_text(bytes: &[u8], text: &[u8]) -> Result<(Plan, Automaton), u32> {
+    let plan = Plan::read(bytes)?;
+    let items = read_text(text, plan.alphabet)?;
+    let automaton = Automaton::of_items(&items, plan.alphabet)?;
+    Ok((plan, automaton))
+}
+
+/// The answer to a plan under an automaton, or to a plan already refused.
+fn answer(accepted: Result<(Plan, Automaton), u32>, row: &mut [u64]) -> Answer {
+    let (plan, automaton) = match accepted {
+        Ok(accepted) => accepted,
+        Err(number) => return Answer::Refused(number),
+    };
+    // Refusal 17: the row has fewer places than there are nodes.
+    let Some(places) = row.get_mut(..plan.nodes) else {
+        return Answer::Refused(17);
+    };
+    let graph = Graph::of(&plan);
+    let sets = graph.sets(&automaton);
+    let counts = count(&plan, &automaton, &graph, &sets);
+    places.copy_from_slice(&sets);
+    if verified(plan.kind, &automaton, counts.final_set) {
+        Answer::Verified(counts)
+    } else {
+        Answer::Inconclusive(counts)
+    }
 }
 
 fn count(plan: &Plan, automaton: &Automaton, graph: &Graph, sets: &[u64]) -> Counts {

@@ -2,6 +2,9 @@
 
 use crate::bits::BitReader;
 
+/// A pattern has at most so many items.
+pub(crate) const MOST_ITEMS: usize = 64;
+
 /// What is asked of the complete runs: that every one or that none has its
 /// string in the pattern's language.
 #[derive(Clone, Copy, Debug, PartialEq, Eq)]
@@ -196,7 +199,7 @@ impl Head {
             && self.calls <= 128
             && self.accepts <= 128
             && self.channels <= 64
-            && (1..=64).contains(&self.items)
+            && (1..=MOST_ITEMS).contains(&self.items)
     }
 }
 

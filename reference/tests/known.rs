@@ -1,178 +1,17 @@
 //! The plans with known verdicts, with all values given for them.
 
-use reference::{judge, pattern_part, Answer, Automaton, Counts, Plan};
+mod draft;
 
-/// Plan P as printed.
-const P: [u8; 22] = [
-    0x08, 0x08, 0x02, 0x00, 0x00, 0x00, 0x06, 0x00, 0x00, 0x00, 0x00, 0x08, 0x00, 0x04, 0x00, 0x04,
-    0x20, 0x30, 0x00, 0x00, 0x00, 0x00,
-];
+use draft::{counts, events, set, Draft, NONE, P, UNTOUCHED};
+use reference::{judge, pattern_part, Answer, Automaton, Counts, Item, Plan};
 
-const EVERY: u64 = 0;
-const NONE: u64 = 1;
-
-/// What stands in the places of a row before a plan is judged.
-const UNTOUCHED: u64 = 0xDEAD;
-
-/// Writes fields, the most significant bit first.
-#[derive(Default)]
-struct BitWriter {
-    bytes: Vec<u8>,
-    used: usize,
+/// Alphabet empty, pattern the empty string.
+fn empty() -> Draft {
+    Draft::new(&[], &[Item::Empty])
 }
 
-impl BitWriter {
-    fn put(&mut self, width: usize, value: u64) {
-        for bit in (0..width).rev() {
-            if self.used.is_multiple_of(8) {
-                self.bytes.push(0);
-            }
-            if value >> bit & 1 == 1 {
-                self.bytes[self.used / 8] |= 0x80 >> (self.used % 8);
-            }
-            self.used += 1;
-        }
-    }
-
-    /// 31 bits, the first for event 1 and the last for event 31.
-    fn put_events(&mut self, events: &[u64]) {
-        for event in 1..=31 {
-            self.put(1, u64::from(events.contains(&event)));
-        }
-    }
-
-    /// The next field starts on a new byte.
-    fn fill(&mut self) {
-        self.used = 8 * self.bytes.len();
-    }
-}
-
-#[derive(Clone)]
-enum Item {
-    Empty,
-    Events(Vec<u64>),
-    Sequence,
-    Star,
-}
-
-fn events(events: &[u64]) -> Item {
-    Item::Events(events.to_vec())
-}
-
-/// A plan to be written. Jobs are size, entry, exit; steps are from, to,
-/// event; calls and accepts are from, to, channel.
-#[derive(Clone)]
-struct Draft {
-    kind: u64,
-    alphabet: Vec<u64>,
-    jobs: Vec<[u64; 3]>,
-    steps: Vec<[u64; 3]>,
-    channels: Vec<u64>,
-    calls: Vec<[u64; 3]>,
-    accepts: Vec<[u64; 3]>,
-    items: Vec<Item>,
-}
-
-impl Draft {
-    /// Unless said, one job of two nodes, entry 0, exit 1, kind every.
-    fn new(alphabet: &[u64], items: &[Item]) -> Draft {
-        Draft {
-            kind: EVERY,
-            alphabet: alphabet.to_vec(),
-            jobs: vec![[2, 0, 1]],
-            steps: vec![],
-            channels: vec![],
-            calls: vec![],
-            accepts: vec![],
-            items: items.to_vec(),
-        }
-    }
-
-    fn p() -> Draft {
-        Draft {
-            steps: vec![[0, 1, 1]],
-            ..Draft::new(&[1], &[events(&[1])])
-        }
-    }
-
-    /// Alphabet empty, pattern the empty string.
-    fn empty() -> Draft {
-        Draft::new(&[], &[Item::Empty])
-    }
-
-    fn nodes(&self) -> u64 {
-        self.jobs.iter().map(|job| job[0]).sum()
-    }
-
-    fn bytes(&self) -> Vec<u8> {
-        self.bytes_with_nodes(self.nodes())
-    }
-
-    fn bytes_with_nodes(&self, nodes: u64) -> Vec<u8> {
-        let mut writer = BitWriter::default();
-        writer.put(5, self.jobs.len() as u64);
-        writer.put(9, nodes);
-        writer.put(9, self.steps.len() as u64);
-        writer.put(8, self.calls.len() as u64);
-        writer.put(8, self.accepts.len() as u64);
-        writer.put(7, self.channels.len() as u64);
-        writer.put(1, self.kind);
-        writer.put(7, self.items.len() as u64);
-        writer.put_events(&self.alphabet);
-        put_each(&mut writer, &self.jobs, [9, 8, 8]);
-        put_each(&mut writer, &self.steps, [8, 8, 5]);
-        for &event in &self.channels {
-            writer.put(5, event);
-        }
-        put_each(&mut writer, &self.calls, [8, 8, 6]);
-        put_each(&mut writer, &self.accepts, [8, 8, 6]);
-        writer.fill();
-        for item in &self.items {
-            match item {
-                Item::Empty => writer.put(3, 0),
-                Item::Events(events) => {
-                    writer.put(3, 1);
-                    writer.put_events(events);
-                }
-                Item::Sequence => writer.put(3, 2),
-                Item::Star => writer.put(3, 4),
-            }
-        }
-        writer.bytes
-    }
-
-    /// Judges the plan with a row one place too long, which stays unchanged,
-    /// and gives the sets.
-    fn judge(&self) -> (Answer, Vec<u64>) {
-        let nodes = self.nodes() as usize;
-        let mut row = vec![UNTOUCHED; nodes + 1];
-        let answer = judge(&self.bytes(), &mut row);
-        assert_eq!(row.pop(), Some(UNTOUCHED));
-        (answer, row)
-    }
-
-    fn automaton(&self) -> Result<Automaton, u32> {
-        Automaton::of(&Plan::read(&self.bytes())?)
-    }
-}
-
-fn put_each(writer: &mut BitWriter, entries: &[[u64; 3]], widths: [usize; 3]) {
-    for entry in entries {
-        for (&value, width) in entry.iter().zip(widths) {
-            writer.put(width, value);
-        }
-    }
-}
-
-fn set(states: &[u32]) -> u64 {
-    states.iter().fold(0, |set, state| set | 1 << state)
-}
-
-fn counts(answer: Answer) -> Counts {
-    match answer {
-        Answer::Verified(counts) | Answer::Inconclusive(counts) => counts,
-        Answer::Refused(number) => panic!("refused {number}"),
-    }
+fn automaton(draft: &Draft) -> Result<Automaton, u32> {
+    Automaton::of(&Plan::read(&draft.bytes())?)
 }
 
 /// A refusal of 1 to 16: it leaves the row unchanged and the part is empty.
@@ -213,7 +52,7 @@ fn plan_p_of_kind_none() {
 
 #[test]
 fn automaton_of_plan_p() {
-    let automaton = Draft::p().automaton().unwrap();
+    let automaton = automaton(&Draft::p()).unwrap();
     assert_eq!(automaton.states(), 3);
     assert_eq!([0, 1, 2].map(|state| automaton.next(state, 1)), [1, 2, 2]);
     assert_eq!([0, 1, 2].map(|state| automaton.next(state, 2)), [0, 1, 2]);
@@ -225,22 +64,7 @@ fn automaton_of_plan_p() {
 
 #[test]
 fn two_jobs() {
-    let pattern = [
-        events(&[1]),
-        events(&[2]),
-        Item::Sequence,
-        events(&[3]),
-        Item::Sequence,
-    ];
-    let draft = Draft {
-        jobs: vec![[3, 0, 2], [3, 3, 5]],
-        steps: vec![[0, 1, 1], [4, 5, 3]],
-        channels: vec![2],
-        calls: vec![[1, 2, 0]],
-        accepts: vec![[3, 4, 0]],
-        ..Draft::new(&[1, 2, 3], &pattern)
-    };
-    let (answer, row) = draft.judge();
+    let (answer, row) = Draft::two_jobs().judge();
     let expected = Counts {
         states: 5,
         meetings: 1,
@@ -279,7 +103,7 @@ fn one_node_that_is_entry_and_exit() {
 fn one_quiet_step() {
     let draft = Draft {
         steps: vec![[0, 1, 0]],
-        ..Draft::empty()
+        ..empty()
     };
     let (answer, _) = draft.judge();
     assert!(matches!(answer, Answer::Verified(_)));
@@ -291,7 +115,7 @@ fn a_call_that_nobody_accepts() {
     let alone = Draft {
         channels: vec![0],
         calls: vec![[0, 1, 0]],
-        ..Draft::empty()
+        ..empty()
     };
     let same_job = Draft {
         accepts: vec![[0, 1, 0]],
@@ -313,7 +137,7 @@ fn a_call_that_nobody_accepts() {
 fn eight_nodes_without_steps() {
     let draft = Draft {
         jobs: vec![[8, 0, 7]],
-        ..Draft::empty()
+        ..empty()
     };
     let (answer, _) = draft.judge();
     assert!(matches!(answer, Answer::Verified(_)));
@@ -322,18 +146,12 @@ fn eight_nodes_without_steps() {
 
 #[test]
 fn many_states() {
-    let both = events(&[1, 2]);
-    let mut items = vec![both.clone(), Item::Star, events(&[1]), Item::Sequence];
-    for _ in 0..4 {
-        items.extend([both.clone(), Item::Sequence]);
-    }
-    let four = Draft::new(&[1, 2], &items);
+    let four = Draft::many_states(4);
     assert_eq!(counts(four.judge().0).states, 33);
-    assert_eq!(four.automaton().unwrap().states(), 33);
-    items.extend([both, Item::Sequence]);
-    let five = Draft::new(&[1, 2], &items);
+    assert_eq!(automaton(&four).unwrap().states(), 33);
+    let five = Draft::many_states(5);
     assert_refused(&five.bytes(), 16);
-    assert_eq!(five.automaton(), Err(16));
+    assert_eq!(automaton(&five), Err(16));
 }
 
 #[test]

@@ -3,6 +3,7 @@
 mod jobs;
 mod largest;
 mod tiny;
+mod typed;
 
 use crate::patterns;
 use differential::draft::Draft;
@@ -18,11 +19,14 @@ pub struct Family {
 pub struct Member {
     pub size: String,
     pub plan: Vec<u8>,
+    /// The text by which it is judged; none for its own pattern.
+    pub text: Option<Vec<u8>>,
 }
 
 pub fn all() -> Vec<Family> {
     vec![
         tiny::family(),
+        typed::family(),
         sized("chain", "nodes", &[8, 32, 64, 128, 256], jobs::chain),
         sized("ring", "jobs", &[2, 4, 8, 16], jobs::ring),
         sized("star", "callers", &[1, 3, 7, 15], jobs::star_of),
@@ -68,5 +72,6 @@ fn member(size: &str, draft: &Draft) -> Member {
     Member {
         size: size.to_string(),
         plan: draft.encode(),
+        text: None,
     }
 }

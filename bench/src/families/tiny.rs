@@ -38,7 +38,7 @@ fn one_step_under_many_states() -> Draft {
 }
 
 /// A step, a meeting and a step that should come in this order.
-fn two_jobs() -> Draft {
+pub fn two_jobs() -> Draft {
     let pattern = sequence(&[only(1), only(2), only(3)]);
     let mut plan = Builder::new(only(1) | only(2) | only(3), pattern);
     plan.job(3, 0, 2);

@@ -2,14 +2,17 @@
 
 use crate::case;
 use crate::program::largest;
-use crate::program::line::{answer, name, READ};
+use crate::program::line::{answer, answer_by, name, READ};
 use crate::program::writing::Writing;
 use crate::random::Random;
+use crate::text::MOST_BYTES;
 use reference::Answer;
 use std::collections::BTreeMap;
 
 pub struct Input {
     pub name: String,
+    /// The program's argument, if it is given one.
+    pub text: Option<Vec<u8>>,
     pub bytes: Vec<u8>,
     pub writing: Writing,
 }
@@ -23,6 +26,8 @@ pub const PRINTED: [u8; 22] = [
 /// Generated plans for each of refusals 1 to 16, and for each of the two verdicts.
 const REFUSED: usize = 15;
 const JUDGED: usize = 60;
+/// The same with a text, for each answer.
+const TYPED: usize = 4;
 /// One in so many of them is written in pieces.
 const IN_PIECES: usize = 4;
 /// Plans of the seed that are looked through for them.
@@ -31,6 +36,8 @@ const LOOKED_THROUGH: u64 = 3_000;
 const LARGEST: usize = 3;
 /// Lengths around that which the program reads, one above that of a pipe too.
 const LONG: [usize; 5] = [READ - 1, READ, READ + 1, 5_000, 70_000];
+/// Lengths of texts from the longest that is read on.
+pub const LONG_TEXTS: [usize; 5] = [MOST_BYTES, MOST_BYTES + 1, READ, READ + 1, 100_000];
 
 /// All inputs of this seed.
 pub fn all(seed: u64) -> Vec<Input> {
@@ -45,6 +52,8 @@ pub fn all(seed: u64) -> Vec<Input> {
     let of_each_verdict = plans.iter().step_by(LARGEST);
     inputs.extend(of_each_verdict.flat_map(|plan| long(plan, random)));
     inputs.extend(long(&all_sets, random));
+    inputs.extend(printed_with_texts());
+    inputs.extend(generated_with_texts(seed));
     inputs
 }
 
@@ -52,8 +61,17 @@ impl Input {
     fn new(name: &str, bytes: &[u8], writing: Writing) -> Input {
         Input {
             name: name.to_string(),
+            text: None,
             bytes: bytes.to_vec(),
             writing,
+        }
+    }
+
+    /// The bytes written at once to the program, which is given the text.
+    fn typed(name: &str, bytes: &[u8], text: &[u8]) -> Input {
+        Input {
+            text: Some(text.to_vec()),
+            ..Input::new(name, bytes, Writing::Whole)
         }
     }
 
@@ -82,10 +100,24 @@ fn short() -> Vec<Input> {
     inputs
 }
 
+/// How many inputs of each answer there are.
+#[derive(Default)]
+struct Kept(BTreeMap<String, usize>);
+
+impl Kept {
+    /// Counts one more of this answer, and tells how many there were; none if these are as many as wanted.
+    fn one_more(&mut self, answer: &Answer, wanted: usize) -> Option<usize> {
+        let kept = self.0.entry(name(answer)).or_default();
+        let before = *kept;
+        *kept = wanted.min(before + 1);
+        (before < wanted).then_some(before)
+    }
+}
+
 /// Generated plans, some of each answer; some are written in pieces.
 fn generated(seed: u64, random: &mut Random) -> Vec<Input> {
     let mut inputs = Vec::new();
-    let mut kept: BTreeMap<String, usize> = BTreeMap::new();
+    let mut kept = Kept::default();
     for number in 0..LOOKED_THROUGH {
         let plan = case::make(seed, number).plan;
         let answer = answer(&plan);
@@ -93,15 +125,13 @@ fn generated(seed: u64, random: &mut Random) -> Vec<Input> {
             Answer::Refused(_) => REFUSED,
             _ => JUDGED,
         };
-        let kept = kept.entry(name(&answer)).or_default();
-        if *kept < wanted {
+        if let Some(before) = kept.one_more(&answer, wanted) {
             let mut ways = Writing::in_pieces(plan.len());
-            if *kept % IN_PIECES > 0 || ways.is_empty() {
+            if before % IN_PIECES > 0 || ways.is_empty() {
                 ways = vec![Writing::Whole];
             }
             let name = format!("plan {number}");
             inputs.push(Input::new(&name, &plan, random.pick(&ways)));
-            *kept += 1;
         }
     }
     inputs
@@ -136,4 +166,73 @@ fn long(plan: &[u8], random: &mut Random) -> Vec<Input> {
         }
     }
     inputs
+}
+
+/// Texts for the printed plan, whose alphabet is {a}.
+const TEXTS: [&str; 24] = [
+    "", "a", "0", "[]", "[^]", "[^a]", "a;a", "a|0", "((a))*", "a**", "b", "[^b]", "[ab]", "A",
+    " ", "a ", "-", "--help", "a;", "()", "(a", "[a", "[a^]", "\u{e9}",
+];
+
+/// The printed plan, and one that is refused, with short texts and with long ones.
+fn printed_with_texts() -> Vec<Input> {
+    let typed = |text: &[u8]| Input::typed("the printed plan", &PRINTED, text);
+    let mut inputs: Vec<Input> = TEXTS.iter().map(|text| typed(text.as_bytes())).collect();
+    // Two stars of letters in a row beside each other: 72 states and one more.
+    let row = |letters: usize| format!("({})*", vec!["a"; letters].join(";"));
+    inputs.push(typed(format!("{}|{}", row(8), row(9)).as_bytes()));
+    for length in LONG_TEXTS {
+        for text in long_texts(length) {
+            inputs.push(typed(&text));
+            let cut = &PRINTED[..PRINTED.len() - 1];
+            inputs.push(Input::typed("the printed plan, cut", cut, &text));
+        }
+    }
+    inputs
+}
+
+/// Texts of this length. Cut to an odd one, the first is still in the grammar, with too many items; cut to the longest that is read,
+/// the second is, with few; the third is not.
+fn long_texts(length: usize) -> [Vec<u8>; 3] {
+    let letters = b"a;".repeat(length);
+    let set = [b"[", &b"a".repeat(MOST_BYTES - 2)[..], b"]"].concat();
+    let brackets = (length - 1) / 2;
+    let middle = &b"a*"[..2 - length % 2];
+    [
+        letters[..length].to_vec(),
+        [set, b"*".repeat(length - MOST_BYTES)].concat(),
+        [b"(".repeat(brackets), b")".repeat(brackets)].join(middle),
+    ]
+}
+
+/// Generated plans with their texts, some of each answer. No argument can hold a zero.
+fn generated_with_texts(seed: u64) -> Vec<Input> {
+    let mut inputs = Vec::new();
+    let mut kept = Kept::default();
+    for number in 0..LOOKED_THROUGH {
+        let case = case::make(seed, number);
+        let text = &case.text.bytes;
+        let answer = answer_by(Some(text), &case.plan);
+        if !text.contains(&0) && kept.one_more(&answer, TYPED).is_some() {
+            inputs.push(Input::typed(&format!("plan {number}"), &case.plan, text));
+        }
+    }
+    inputs
+}
+
+#[cfg(test)]
+mod tests {
+    use super::*;
+
+    #[test]
+    fn long_texts_have_their_lengths_and_are_cut_as_told() {
+        let refusal = |text: &[u8]| reference::read_text(text, 1 << 1).err();
+        for length in LONG_TEXTS {
+            let texts = long_texts(length);
+            assert!(texts.iter().all(|text| text.len() == length));
+            let cut = texts.map(|text| refusal(&text[..MOST_BYTES]));
+            let third = (length > MOST_BYTES).then_some(18);
+            assert_eq!(cut, [Some(19), None, third]);
+        }
+    }
 }

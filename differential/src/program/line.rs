@@ -10,8 +10,17 @@ const PLACES: usize = 256;
 
 /// The answer to the plan that the program reads from this input.
 pub fn answer(input: &[u8]) -> Answer {
+    answer_by(None, input)
+}
+
+/// The answer under the text that the program is given as its argument, if it is given one.
+pub fn answer_by(text: Option<&[u8]>, input: &[u8]) -> Answer {
     let plan = &input[..input.len().min(READ)];
-    reference::judge(plan, &mut [0; PLACES])
+    let row = &mut [0; PLACES];
+    match text {
+        None => reference::judge(plan, row),
+        Some(text) => reference::judge_text(plan, text, row),
+    }
 }
 
 /// The verdict, or the refusal with its number.

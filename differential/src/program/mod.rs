@@ -1,5 +1,5 @@
 //! The built program on some hundreds of inputs: it ends with status 0, writes no errors, and prints the line of the
-//! independent implementation's answer, byte by byte, in whatever pieces its input comes.
+//! independent implementation's answer, byte by byte, in whatever pieces its input comes, with a text as its argument or without.
 
 mod inputs;
 mod largest;
@@ -10,7 +10,7 @@ mod writing;
 
 use crate::hex::hex;
 use inputs::Input;
-use line::{answer, line, READ};
+use line::{answer_by, line, READ};
 use process::{start, Said, LIMIT};
 use std::path::Path;
 use tally::Tally;
@@ -18,7 +18,8 @@ use tally::Tally;
 /// Starts the program on all inputs of this seed. The summary, or what is wrong and with which input.
 pub fn check_all(program: &Path, seed: u64) -> Result<String, String> {
     check_with(seed, |input| {
-        start(program, &input.bytes, &input.writing, LIMIT)
+        let Input { text, bytes, .. } = input;
+        start(program, text.as_deref(), bytes, &input.writing, LIMIT)
     })
 }
 
@@ -28,7 +29,7 @@ fn check_with(
 ) -> Result<String, String> {
     let mut tally = Tally::default();
     for input in inputs::all(seed) {
-        let answer = answer(&input.bytes);
+        let answer = answer_by(input.text.as_deref(), &input.bytes);
         let expected = right(&line(&answer));
         let came = program(&input);
         if came.as_ref() != Ok(&expected) {
@@ -52,19 +53,28 @@ fn right(line: &str) -> Said {
 }
 
 fn report(seed: u64, input: &Input, expected: &Said, came: &Result<Said, String>) -> String {
-    let (plan, rest) = input.bytes.split_at(input.bytes.len().min(READ));
-    let more = match rest.len() {
-        0 => String::new(),
-        more => format!(" and {more} more"),
+    let told = |bytes: &[u8], told: fn(&[u8]) -> String| {
+        let (first, rest) = bytes.split_at(bytes.len().min(READ));
+        match rest.len() {
+            0 => told(first),
+            more => format!("{} and {more} more", told(first)),
+        }
+    };
+    let text = match &input.text {
+        None => String::new(),
+        Some(text) => format!(
+            "\ntext {}",
+            told(text, |text| text.escape_ascii().to_string())
+        ),
     };
     let came = match came {
         Ok(said) => said.to_string(),
         Err(fault) => fault.clone(),
     };
     format!(
-        "program, seed {seed}: {}\nbytes {}{more}\nwritten {}\nexpected: {expected}\ncame: {came}",
+        "program, seed {seed}: {}\nbytes {}{text}\nwritten {}\nexpected: {expected}\ncame: {came}",
         input.name,
-        hex(plan),
+        told(&input.bytes, hex),
         input.writing
     )
 }
@@ -72,21 +82,34 @@ fn report(seed: u64, input: &Input, expected: &Said, came: &Result<Said, String>
 #[cfg(test)]
 mod tests {
     use super::*;
+    use crate::text::MOST_BYTES;
 
-    /// What a program leaves behind that takes these bytes for the plan.
-    fn judged(bytes: &[u8]) -> Said {
-        right(&line(&answer(bytes)))
+    /// What a program leaves behind that takes these bytes for the text and for the plan.
+    fn judged(text: Option<&[u8]>, bytes: &[u8]) -> Said {
+        right(&line(&answer_by(text, bytes)))
     }
 
     /// What is said of a program that takes a part of the input for the plan.
     fn found(part: impl Fn(&Input) -> Vec<u8>) -> String {
-        check_with(7, |input| Ok(judged(&part(input)))).unwrap_err()
+        let program = |input: &Input| Ok(judged(input.text.as_deref(), &part(input)));
+        check_with(7, program).unwrap_err()
+    }
+
+    /// What is said of a program that makes another text, or none, of its argument.
+    fn found_by_text(taken: impl Fn(&[u8]) -> Option<&[u8]>) -> String {
+        let program = |input: &Input| {
+            let text = input.text.as_deref().and_then(&taken);
+            Ok(judged(text, &input.bytes))
+        };
+        check_with(7, program).unwrap_err()
     }
 
     #[test]
     fn a_right_program_passes() {
         for seed in 1..=5 {
-            let summary = check_with(seed, |input| Ok(judged(&input.bytes)));
+            let summary = check_with(seed, |input| {
+                Ok(judged(input.text.as_deref(), &input.bytes))
+            });
             assert!(summary.is_ok(), "{summary:?}");
         }
     }
@@ -116,6 +139,18 @@ mod tests {
     }
 
     #[test]
+    fn another_text_is_found_out() {
+        let none = found_by_text(|_| None);
+        assert!(none.contains("\ntext "), "{none}");
+        let empty = found_by_text(|text| Some(text).filter(|text| !text.is_empty()));
+        assert!(empty.contains("\ntext \n"), "{empty}");
+        for length in [1, 64, MOST_BYTES] {
+            let cut = found_by_text(|text| Some(&text[..length.min(text.len())]));
+            assert!(cut.contains("\ntext "), "cut at {length}: {cut}");
+        }
+    }
+
+    #[test]
     fn another_end_is_found_out() {
         let changes: [fn(&mut Said); 5] = [
             |said| said.status = Some(1),
@@ -126,7 +161,7 @@ mod tests {
         ];
         for change in changes {
             let program = |input: &Input| {
-                let mut said = judged(&input.bytes);
+                let mut said = judged(input.text.as_deref(), &input.bytes);
                 change(&mut said);
                 Ok(said)
             };

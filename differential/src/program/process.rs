@@ -1,8 +1,10 @@
 //! One start of the program: its input written to it, and what it says.
 
 use crate::program::writing::Writing;
+use std::ffi::OsStr;
 use std::fmt;
 use std::io::{self, ErrorKind, Read, Write};
+use std::os::unix::ffi::OsStrExt;
 use std::path::Path;
 use std::process::{Child, ChildStdin, Command, ExitStatus, Stdio};
 use std::sync::mpsc::{channel, Receiver};
@@ -38,14 +40,17 @@ impl fmt::Display for Said {
     }
 }
 
-/// Starts the program on this input. Fails if it cannot be started or does not end within the limit.
+/// Starts the program on this input, with the text as its argument if there is one. Fails if it cannot be started or does not end
+/// within the limit.
 pub fn start(
     program: &Path,
+    text: Option<&[u8]>,
     input: &[u8],
     writing: &Writing,
     limit: Duration,
 ) -> Result<Said, String> {
     let mut child = Command::new(program)
+        .args(text.map(OsStr::from_bytes))
         .stdin(Stdio::piped())
         .stdout(Stdio::piped())
         .stderr(Stdio::piped())
@@ -134,7 +139,7 @@ mod tests {
     use super::*;
 
     fn said(program: &str, input: &[u8], writing: &Writing) -> Said {
-        match start(Path::new(program), input, writing, LIMIT) {
+        match start(Path::new(program), None, input, writing, LIMIT) {
             Ok(said) => said,
             Err(fault) => panic!("{program}: {fault}"),
         }
@@ -160,6 +165,15 @@ mod tests {
     }
 
     #[test]
+    fn the_text_arrives() {
+        for text in [vec![], b"a;b c".to_vec(), vec![200; 20_000]] {
+            let said = start(Path::new("echo"), Some(&text), b"", &Writing::Whole, LIMIT);
+            let due = [&text[..], b"\n"].concat();
+            assert!(said.is_ok_and(|said| said.output == due));
+        }
+    }
+
+    #[test]
     fn a_program_need_not_read_all() {
         let input = [0; 200_000];
         for way in [Writing::Whole, Writing::Pieces(7), Writing::Open] {
@@ -170,13 +184,14 @@ mod tests {
     #[test]
     fn a_program_that_does_not_end_is_found_out() {
         let limit = Duration::from_millis(50);
-        let found = start(Path::new("cat"), b"more", &Writing::Open, limit);
+        let found = start(Path::new("cat"), None, b"more", &Writing::Open, limit);
         assert!(found.is_err_and(|fault| fault.contains("does not end within 50ms")));
     }
 
     #[test]
     fn a_program_that_is_not_there_is_found_out() {
-        let found = start(Path::new("/no/such/program"), b"", &Writing::Whole, LIMIT);
+        let program = Path::new("/no/such/program");
+        let found = start(program, None, b"", &Writing::Whole, LIMIT);
         assert!(found.is_err_and(|fault| fault.contains("does not start")));
     }
 }

@@ -1,14 +1,16 @@
 //! What the inputs of the program were like and what they were answered: counted, and all of it asked for.
 
-use crate::program::inputs::Input;
+use crate::program::inputs::{Input, LONG_TEXTS};
 use crate::program::largest;
 use crate::program::line::{name, READ};
 use crate::program::writing::Writing;
 use reference::Answer;
 use std::collections::BTreeMap;
+use std::ops::RangeInclusive;
 
-/// The refusals that the program can give: its row is long enough for every plan.
-const REFUSALS: usize = 16;
+/// The refusals that the program can give: its row is long enough for every plan. Those of a text come after that of the row.
+const REFUSALS: RangeInclusive<u32> = 1..=16;
+const REFUSALS_OF_TEXT: RangeInclusive<u32> = 18..=20;
 const VERDICTS: [&str; 2] = ["verified", "inconclusive"];
 
 const NO_BYTE: &str = "no byte";
@@ -17,6 +19,7 @@ const ALL_READ: &str = "as many bytes as are read";
 const CUT: &str = "more bytes than are read";
 const IN_PIECES: &str = "in pieces";
 const OPEN: &str = "standard input open";
+const EMPTY_TEXT: &str = "an empty text";
 
 #[derive(Default)]
 pub struct Tally {
@@ -50,21 +53,41 @@ fn on_the_largest(verdict: &str) -> String {
     format!("{verdict} of {} bytes", largest::JUDGED)
 }
 
+fn by_text(answer: &str) -> String {
+    format!("{answer} by a text")
+}
+
+fn text_of(length: usize) -> String {
+    format!("a text of {length} bytes")
+}
+
 /// What has to occur.
 fn asked() -> Vec<String> {
-    let mut asked: Vec<String> = (1..=REFUSALS)
-        .map(|number| format!("refused {number}"))
-        .collect();
+    let refused = |number: u32| format!("refused {number}");
+    let mut asked: Vec<String> = REFUSALS.map(refused).collect();
     asked.extend(VERDICTS.map(str::to_string));
     asked.extend(VERDICTS.map(on_the_largest));
     asked.extend([NO_BYTE, ONE_BYTE, ALL_READ, CUT, IN_PIECES, OPEN].map(str::to_string));
+    let refusals = REFUSALS.chain(REFUSALS_OF_TEXT).map(refused);
+    asked.extend(refusals.map(|refused| by_text(&refused)));
+    asked.extend(VERDICTS.map(by_text));
+    asked.push(EMPTY_TEXT.to_string());
+    asked.extend(LONG_TEXTS.map(text_of));
     asked
 }
 
 /// What one input is an example of.
 fn of(input: &Input, answer: &Answer) -> Vec<String> {
-    let length = input.bytes.len();
     let name = name(answer);
+    match &input.text {
+        None => of_plan(input, answer, name),
+        Some(text) if text.is_empty() => vec![by_text(&name), EMPTY_TEXT.to_string()],
+        Some(text) => vec![by_text(&name), text_of(text.len())],
+    }
+}
+
+fn of_plan(input: &Input, answer: &Answer, name: String) -> Vec<String> {
+    let length = input.bytes.len();
     let judged = !matches!(answer, Answer::Refused(_));
     let mut met = vec![name.clone()];
     if judged && length == largest::JUDGED {
@@ -93,6 +116,7 @@ mod tests {
         assert_eq!(tally.missing(), asked());
         let input = Input {
             name: String::new(),
+            text: None,
             bytes: vec![0],
             writing: Writing::Whole,
         };

@@ -1,4 +1,5 @@
-//! Verdicts on small plans, held against all their runs and against the pattern's language itself.
+//! Verdicts on small plans, under their own patterns and under texts, held against all their runs and against the pattern's language
+//! itself.
 
 mod exploration;
 mod expression;
@@ -6,10 +7,13 @@ mod expression;
 mod expression_tests;
 mod plans;
 
+use crate::draft::as_read;
 use crate::hex::hex;
 use crate::random::Random;
 use exploration::{explore, Explored};
-use reference::{Kind, Plan};
+use plans::Small;
+use reference::{Item, Kind, Plan};
+use std::fmt;
 use traceflow::Answer;
 
 /// Plans that are made.
@@ -34,36 +38,69 @@ struct Tally {
     wrong: [usize; 2],
 }
 
+/// A plan and the pattern by which it is judged: its own, or that of a text.
+struct Task<'a> {
+    plan: &'a [u8],
+    text: Option<&'a [u8]>,
+    /// The items by which plan or text was made.
+    pattern: Vec<Item>,
+}
+
 /// Judges small plans with the proved judge, and explores each. The summary, or what is wrong and with which plan.
 pub fn check_all(seed: u64) -> Result<String, String> {
-    check_with(seed, traceflow::judge)
+    check_with(seed, traceflow::judge_by)
 }
 
-fn check_with(seed: u64, judge: impl Fn(&[u8], &mut [u64]) -> Answer) -> Result<String, String> {
+fn check_with(
+    seed: u64,
+    judge: impl Fn(&[u8], Option<&[u8]>, &mut [u64]) -> Answer,
+) -> Result<String, String> {
     let mut random = Random::new(seed);
-    let mut tally = Tally::default();
+    let mut tallies = [Tally::default(), Tally::default()];
     for _ in 0..PLANS {
-        let bytes = plans::small_plan(&mut random).encode();
-        check_plan(&bytes, &judge, &mut tally)
-            .map_err(|what| format!("runs: {what}; plan {}", hex(&bytes)))?;
+        let small = plans::small_plan(&mut random).ok_or("runs: a pattern cannot be spelled")?;
+        let Small { draft, typed, text } = small;
+        let plan = &draft.encode();
+        let patterns = [(None, &draft.items), (Some(&text[..]), &typed)];
+        for ((text, items), tally) in patterns.into_iter().zip(&mut tallies) {
+            let pattern = as_read(items);
+            let task = Task {
+                plan,
+                text,
+                pattern,
+            };
+            check(&task, &judge, tally).map_err(|what| task.report(&what))?;
+        }
     }
-    tally.covers()?;
-    Ok(tally.summary())
+    let [own, typed] = tallies;
+    own.covers("runs")?;
+    typed.covers("runs by a text")?;
+    Ok(format!("runs: {own}\nruns by a text: {typed}"))
 }
 
-fn check_plan(
-    bytes: &[u8],
-    judge: impl Fn(&[u8], &mut [u64]) -> Answer,
+impl Task<'_> {
+    fn report(&self, what: &str) -> String {
+        let text = match self.text {
+            None => String::new(),
+            Some(text) => format!("; text {}", text.escape_ascii()),
+        };
+        format!("runs: {what}; plan {}{text}", hex(self.plan))
+    }
+}
+
+fn check(
+    task: &Task,
+    judge: impl Fn(&[u8], Option<&[u8]>, &mut [u64]) -> Answer,
     tally: &mut Tally,
 ) -> Result<(), String> {
-    let plan = Plan::read(bytes).map_err(|n| format!("read as refused {n}"))?;
+    let plan = Plan::read(task.plan).map_err(|n| format!("read as refused {n}"))?;
     let mut row = vec![0; plan.nodes];
-    let verified = match judge(bytes, &mut row) {
+    let verified = match judge(task.plan, task.text, &mut row) {
         Answer::Refused(n) => return Err(format!("judged as refused {n}")),
         Answer::Verified(_) => true,
         Answer::Inconclusive(_) => false,
     };
-    match explore(&plan, &row, CONFIGURATIONS)? {
+    match explore(&plan, &task.pattern, &row, CONFIGURATIONS)? {
         None => tally.passed_over += 1,
         Some(explored) if verified && explored.wrong > 0 => {
             return Err("verified, but a complete run is wrong for its kind".to_string());
@@ -94,7 +131,7 @@ impl Tally {
     }
 
     /// Whether enough was seen for the check to mean something.
-    fn covers(&self) -> Result<(), String> {
+    fn covers(&self, what: &str) -> Result<(), String> {
         let least = |counts: [usize; 2]| counts[0].min(counts[1]);
         let seen = [
             ("plans", self.plans, 19_000),
@@ -109,17 +146,22 @@ impl Tally {
                 2_500,
             ),
         ];
-        for (what, count, needed) in seen {
+        for (which, count, needed) in seen {
             if count < needed {
-                return Err(format!("runs: {what}: only {count}, {needed} are needed"));
+                return Err(format!(
+                    "{what}: {which}: only {count}, {needed} are needed"
+                ));
             }
         }
         Ok(())
     }
+}
 
-    fn summary(&self) -> String {
-        format!(
-            "runs: {} plans, {} configurations, {} meetings taken; by kind [every, none]: verified {:?}, \
+impl fmt::Display for Tally {
+    fn fmt(&self, out: &mut fmt::Formatter) -> fmt::Result {
+        write!(
+            out,
+            "{} plans, {} configurations, {} meetings taken; by kind [every, none]: verified {:?}, \
              with a complete run {:?}, of these with meetings {:?}; inconclusive {:?}, with a wrong run {:?}; \
              {} passed over",
             self.plans,
@@ -145,42 +187,66 @@ mod tests {
         assert!(summary.is_ok(), "{summary:?}");
     }
 
+    /// What is said of a judge that is the proved one but for this change to what it gives by a text, or by the plan's own pattern.
+    fn found(by_text: bool, change: impl Fn(Answer, &mut [u64]) -> Answer) -> String {
+        let judge = |plan: &[u8], text: Option<&[u8]>, row: &mut [u64]| {
+            let answer = traceflow::judge_by(plan, text, row);
+            match text.is_some() == by_text {
+                true => change(answer, row),
+                false => answer,
+            }
+        };
+        check_with(7, judge).unwrap_err()
+    }
+
     /// An answer that is verified whatever the sets.
-    fn lenient(plan: &[u8], row: &mut [u64]) -> Answer {
-        match traceflow::judge(plan, row) {
+    fn lenient(answer: Answer, _: &mut [u64]) -> Answer {
+        match answer {
             Answer::Inconclusive(counts) => Answer::Verified(counts),
             answer => answer,
         }
     }
 
-    #[test]
-    fn a_lenient_judge_is_found_out() {
-        let found = check_with(7, lenient).unwrap_err();
-        assert!(found.contains("verified, but a complete run is wrong"));
-    }
-
     /// The sets, one of them short of its greatest state.
-    fn forgetful(plan: &[u8], row: &mut [u64]) -> Answer {
-        let answer = traceflow::judge(plan, row);
+    fn forgetful(answer: Answer, row: &mut [u64]) -> Answer {
         if let Some(set) = row.iter_mut().rfind(|set| set.count_ones() > 1) {
             *set ^= 1 << set.ilog2();
         }
         answer
     }
 
+    fn timid(answer: Answer, _: &mut [u64]) -> Answer {
+        match answer {
+            Answer::Verified(counts) => Answer::Inconclusive(counts),
+            answer => answer,
+        }
+    }
+
+    #[test]
+    fn a_lenient_judge_is_found_out() {
+        for by_text in [false, true] {
+            let found = found(by_text, lenient);
+            assert!(found.contains("verified, but a complete run is wrong"));
+        }
+    }
+
     #[test]
     fn a_set_short_of_a_state_is_found_out() {
-        let found = check_with(7, forgetful).unwrap_err();
-        assert!(found.contains("does not hold"));
+        for by_text in [false, true] {
+            assert!(found(by_text, forgetful).contains("does not hold"));
+        }
     }
 
     #[test]
     fn a_judge_that_shows_nothing_does_not_cover() {
-        let timid = |plan: &[u8], row: &mut [u64]| match traceflow::judge(plan, row) {
-            Answer::Verified(counts) => Answer::Inconclusive(counts),
-            answer => answer,
-        };
-        let found = check_with(7, timid).unwrap_err();
-        assert!(found.contains("are needed"));
+        for by_text in [false, true] {
+            assert!(found(by_text, timid).contains("are needed"));
+        }
+    }
+
+    #[test]
+    fn a_judge_that_passes_over_the_text_is_found_out() {
+        let own = |plan: &[u8], _: Option<&[u8]>, row: &mut [u64]| traceflow::judge(plan, row);
+        assert!(check_with(7, own).unwrap_err().contains("; text "));
     }
 }

@@ -1,7 +1,16 @@
-//! Small sound plans: a run is laid out first, its moves become the plan, and a few more arcs are strewn in.
+//! Small sound plans: a run is laid out first, its moves become the plan, and a few more arcs are strewn in. Each has a second
+//! pattern, spelled as a text.
 
 use crate::draft::{Arc, Draft, Item, Job};
 use crate::random::Random;
+use crate::spelling;
+
+pub struct Small {
+    pub draft: Draft,
+    /// The items of the text.
+    pub typed: Vec<Item>,
+    pub text: Vec<u8>,
+}
 
 /// Items of a pattern at most.
 const ITEMS: u32 = 9;
@@ -21,7 +30,7 @@ struct Sketch<'a> {
 }
 
 /// A plan of 1 to 4 jobs with 1 to 4 nodes each, mostly one that has a complete run.
-pub fn small_plan(random: &mut Random) -> Draft {
+pub fn small_plan(random: &mut Random) -> Option<Small> {
     let mut sketch = Sketch::with_jobs(random);
     for _ in 0..sketch.random.below(8) {
         sketch.walk();
@@ -33,7 +42,12 @@ pub fn small_plan(random: &mut Random) -> Draft {
         sketch.strew();
     }
     sketch.draft.items = sketch.pattern();
-    sketch.draft
+    let typed = sketch.pattern();
+    let Sketch { draft, random, .. } = sketch;
+    let choice = spelling::typed(&typed, draft.alphabet, random)?;
+    let wordy = random.one_in(2);
+    let text = spelling::text(&choice, wordy, random)?;
+    Some(Small { draft, typed, text })
 }
 
 impl<'a> Sketch<'a> {
