@@ -1,14 +1,14 @@
 -- Each plan has one line, and each plan and text have one; refusal 17 has no part in them. Assumes nothing.
 use mathlib.Core.Path.{_≡_, refl, sym, ap, _∙_}
 use mathlib.Core.Bool.{Bool, cond}
-use mathlib.Core.List.{List}
+use mathlib.Core.List.{List, [], _∷_, _++_}
 use mathlib.Core.Option.{Option, none, some}
 use Prim.Native.Nat.{ℕ}
 use borrow.Author.Tests.{le-ltb}
 use lib.ListN.{replicate}
 use Rattle.sections.specs.Layout.{planOf}
 use Rattle.plan.specs.Checks.{refuse, first, orElse}
-use Rattle.plan.proofs.Tests.{first-last}
+use Rattle.plan.proofs.Tests.{first-append}
 use Rattle.plan.proofs.Legality.{legal}
 use Rattle.pattern.specs.Refusals.{readable, tooManyStates, acceptable}
 use Rattle.pattern.proofs.Part.{before-items}
@@ -24,10 +24,6 @@ use Rattle.line.specs.Line.{lineOf}
 use Rattle.line.specs.Array.{lineArray}
 use Rattle.report.specs.Reports.{Reports}
 
-or-else-none : (x : Option ℕ) → orElse x none ≡ x
-or-else-none none = refl
-or-else-none (some n) = refl
-
 one-line : (P : Promise) → Determined P → (l m : Line) → Reports P l → Reports P m → l ≡ m
 one-line P one l m x y =
     x .printed ∙ ap (λ (a : Answer). lineArray (lineOf a)) (one (replicate 256 0) (x .answer) (y .answer) (x .row) (y .row) (x .judged) (y .judged) .0)
@@ -39,19 +35,22 @@ reports-unique b = one-line (Judged own b) (judged-unique own b)
 pub text-reports-unique : (b w : List ℕ) (l m : Line) → Reports (JudgedText b w) l → Reports (JudgedText b w) m → l ≡ m
 text-reports-unique b w = one-line (JudgedText b w) (typed-unique b w)
 
--- a row of 256 places is long enough for every plan: the refusals are those before 17
-pub enough-places : (q : Pattern) (b : List ℕ)
-    → first (judgeable q 256) b ≡ orElse (first readable b) (orElse (textRefusal q b) (refuse 16 (manyStates q) b))
-enough-places q b = in-order q 256 b ∙ go (first readable b) refl
+-- a row of 256 places is long enough for every plan: the checks are those before 17
+pub enough-places : (q : Pattern) (b : List ℕ) → first (judgeable q 256) b ≡ first (readable ++ (textRefusal q ∷ refuse 16 (manyStates q) ∷ [])) b
+unfolding first
+enough-places q b = in-order q 256 b ∙ go (first readable b) refl ∙ sym (first-append readable (textRefusal q ∷ refuse 16 (manyStates q) ∷ []) b)
   where
     go : (o : Option ℕ) → first readable b ≡ o
-        → orElse o (orElse (textRefusal q b) (lateRefusal (planOf b) (expressionBy q b) 256)) ≡ orElse o (orElse (textRefusal q b) (refuse 16 (manyStates q) b))
+        → orElse o (orElse (textRefusal q b) (lateRefusal (planOf b) (expressionBy q b) 256))
+        ≡ orElse o (orElse (textRefusal q b) (orElse (refuse 16 (manyStates q) b) none))
     go (some n) e = refl
     go none e =
         ap (λ (t : Bool). orElse (textRefusal q b) (orElse (refuse 16 (manyStates q) b) (cond t (some 17) none)))
         (le-ltb 256 (planOf b .nodes) (legal b (before-items b e) .nodes))
-        ∙ ap (orElse (textRefusal q b)) (or-else-none (refuse 16 (manyStates q) b))
 
--- of a plan on its own 1 to 16
+-- which are 1 to 16 for a plan on its own
 pub own-refusals : (b : List ℕ) → first (judgeable own 256) b ≡ first acceptable b
-own-refusals b = enough-places own b ∙ sym (first-last readable (refuse 16 tooManyStates) b)
+unfolding first
+own-refusals b =
+    enough-places own b ∙ first-append readable (textRefusal own ∷ refuse 16 (manyStates own) ∷ []) b
+    ∙ sym (first-append readable (refuse 16 tooManyStates ∷ []) b)
