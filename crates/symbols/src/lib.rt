@@ -6,7 +6,8 @@ use leaves::letter_at;
 ghost use mathlib.Core.Path.{_≡_};
 ghost use mathlib.Core.Bool.{true, not};
 ghost use mathlib.Core.List.{[], _∷_};
-ghost use Prim.Native.Nat.{ℕ, _≤_, _^_, min};
+ghost use Prim.Native.Nat.{ℕ, _-_, _≤_, _^_, min};
+ghost use lib.Bits.{bitAnd};
 ghost use lib.ListN.{drop};
 ghost use Rattle.masks.specs.Mask.{has};
 ghost use Rattle.rows.specs.Rows.{place};
@@ -56,12 +57,19 @@ pub fn kind_from(text: &[u8], at: usize) -> u8
     0
 }
 
+// The alphabet without a set.
+fn without(alphabet: u32, set: u32) -> u32
+    ensures { λ r. ⌜ r ≡ alphabet - bitAnd alphabet set ⌝ }
+{
+    alphabet - (alphabet & set)
+}
+
 // The set whose first bracket stands before the place `at`.
 fn bracketed_from(text: &[u8], at: usize, alphabet: u32) -> u32
     ensures { λ r. ⌜ r ≡ setFrom alphabet (drop at (now (text .entry))) ⌝ }
 {
     if is_at(text, at, b'^') {
-        return alphabet - (alphabet & listed_from(text, at + 1));
+        return without(alphabet, listed_from(text, at + 1));
     }
     listed_from(text, at)
 }

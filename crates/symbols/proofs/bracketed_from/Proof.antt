@@ -3,7 +3,7 @@ use mathlib.Core.Path.{_≡_, sym, ap, _∙_}
 use mathlib.Core.Bool.{true}
 use Prim.Native.Nat.{ℕ, _-_}
 use native.Mathlib.Omega.{arith}
-use lib.Bits.{bitAnd, and-le-l}
+use lib.Bits.{bitAnd}
 use lib.ListN.{drop}
 use Rattle.grammar.specs.Grammar.{caret}
 use Rattle.grammar.specs.Ways.{startsWith, setFrom}
@@ -26,14 +26,15 @@ add-listed-from c =
 listed-from-requires : tie.Need-listed-from-requires
 listed-from-requires c κs = search needs
 
-sub-result : tie.Need-sub-result
-sub-result c = and-le-l _ _
+without-requires : tie.Need-without-requires
+without-requires c κs = search needs
 
 returns : tie.Need-returns
 returns c =
-    let args = c .before .before .before .before .args in
-    ap (λ (n : ℕ). args .alphabet - bitAnd (args .alphabet) n) (c .listed-from .ensures)
-    ∙ sym (ap (setFrom (args .alphabet)) (starts-cons caret (args .text .now) (args .at) (found (c .before))))
+    let args = c .before .before .before .before .before .args in
+    c .without .ensures
+    ∙ ap (λ (n : ℕ). args .alphabet - bitAnd (args .alphabet) n) (c .before .listed-from .ensures)
+    ∙ sym (ap (setFrom (args .alphabet)) (starts-cons caret (args .text .now) (args .at) (found (c .before .before))))
 
 listed-from-requires-2 : tie.Need-listed-from-requires-2
 listed-from-requires-2 c κs = search needs
@@ -48,7 +49,7 @@ bracketed-from-spec =
     is-at-requires
     add-listed-from
     listed-from-requires
-    sub-result
+    without-requires
     returns
     listed-from-requires-2
     returns-2)

@@ -1,14 +1,16 @@
 -- `judge_text` answers a refusal of the plan, one of the text, or what is left. Assumes nothing.
-use mathlib.Core.Path.{_≡_, refl, ap, subst}
+use mathlib.Core.Path.{_≡_, refl, sym, ap, subst}
 use mathlib.Core.List.{List}
 use mathlib.Core.Option.{none}
 use Prim.Native.Nat.{ℕ}
 use Rattle.sections.specs.Layout.{planOf}
 use Rattle.plan.specs.Checks.{first}
 use Rattle.plan.specs.Legal.{Keeps}
+use Rattle.items.specs.Postfix.{Postfix}
 use Rattle.grammar.proofs.Every.{every-text}
 use Rattle.pattern.specs.declared.PatternRead.{PatternRead}
 use Rattle.pattern.specs.Refusals.{readable}
+use Rattle.pattern.proofs.Part.{plan-postfix}
 use Rattle.text.specs.Typed.{Typed}
 use Rattle.verifier.specs.Order.{typed, expressionBy}
 use Rattle.verifier.proofs.Refusals.{refused-early, refused-text, judged-late, turned-down}
@@ -30,6 +32,12 @@ passed c = passed-reader (bytes c) (found c) (c .before .before .before .read-pa
 
 kept : (c : tie.After-enum-told) → Keeps (planOf (bytes c)) (found c .reading .plan) (found c .reading .owner)
 kept c = plan-kept (bytes c) (found c) (c .before .before .before .read-pattern .ensures) (c .enum-told .given .1)
+
+items-postfix : (c : tie.After-enum-told) → Postfix (found c .items)
+items-postfix c =
+    subst (λ (r : PatternRead). Postfix (r .items))
+    (sym (all-read (bytes c) (found c) (c .before .before .before .read-pattern .ensures) (c .enum-told .given .1)))
+    (plan-postfix (bytes c) (passed c))
 
 alphabet : (c : tie.After-enum-told) → found c .reading .plan .alphabet ≡ planOf (bytes c) .alphabet
 alphabet c =
@@ -64,11 +72,14 @@ enum-known-typed-found c = search needs
 enum-told-2 : tie.Need-enum-told-2
 enum-told-2 c = search needs
 
+-- both tables of items are postfix: which of them is judged is left to the promise
 settle-requires : tie.Need-settle-requires
 settle-requires c κs =
     let t = c .before .before .before .before in
     let e = t .before .before .before in
-    ((planOf (bytes e), kept e), text-postfix (text-bytes t) _ (t .read-text .result) (told t) (c .before .before .enum-told2 .given .1))
+    let typed-items = text-postfix (text-bytes t) _ (t .read-text .result) (told t) (c .before .before .enum-told2 .given .1) in
+    let own-items = items-postfix e in
+    ((planOf (bytes e), kept e), search (typed-items, own-items))
 
 returns : tie.Need-returns
 returns c =
