@@ -1,14 +1,13 @@
 -- The sets of events that a tree lists, and the alphabet without one.
-use mathlib.Core.Path.{_≡_, _∙_, sym, ap}
-use mathlib.Core.List.{List, [], _∷_, _++_, List·Memᴰ, List·Memᴰ·head, List·Memᴰ·tail}
+use mathlib.Core.Path.{_≡_, _∙_}
+use mathlib.Core.List.{List, [], _∷_, List·Memᴰ, List·Memᴰ·head, List·Memᴰ·tail}
 use mathlib.Core.Logic.{_↔_, ⊎-elim}
 use Prim.Native.Nat.{ℕ, _-_, _^_}
 use native.Mathlib.Omega.{arith}
-use lib.Bits.{bitOr, bitAnd, bitXor, and-comm, or-comm, xor-add-and}
+use lib.Bits.{bitAnd, bitXor, and-comm, xor-add-and}
 use Rattle.masks.specs.Mask.{In}
 use Rattle.masks.proofs.Members.{digit-lt, digit-and, digit-xor, digit-self, digit-not-in, in-or, in-or-left, in-or-right, in-and-left, in-single, not-in-none}
 use Rattle.masks.proofs.Sets.{and-whole}
-use Rattle.masks.proofs.Choices.{or-assoc}
 use Rattle.grammar.specs.Meaning.{listed, without}
 
 -- ---- the events that are listed
@@ -26,11 +25,6 @@ in-list {e} (List·Memᴰ·tail {x} {xs} m) = in-or-right (2 ^ x) (listed xs) e 
 
 pub in-listed : (es : List ℕ) (e : ℕ) → In e (listed es) ↔ List·Memᴰ e es
 in-listed es e = (listed-in es e, in-list)
-
-pub listed-more : (es : List ℕ) (e : ℕ) → listed (es ++ (e ∷ [])) ≡ bitOr (listed es) (2 ^ e)
-unfolding listed
-listed-more [] e = or-comm (2 ^ e) 0
-listed-more (x ∷ es) e = ap (bitOr (2 ^ x)) (listed-more es e) ∙ sym (or-assoc (2 ^ x) (listed es) (2 ^ e))
 
 -- ---- the alphabet without them
 

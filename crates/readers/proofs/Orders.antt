@@ -22,7 +22,7 @@ row-more : {A : Type 0} (n : ℕ) (f g : ℕ → A) → ((i : ℕ) → i < n →
 unfolding row
 row-more n f g h = ap (λ (l : List _). l ++ (f n ∷ [])) (row-ext f g n h)
 
-pub items-more : (a : ℕ) (text order : List ℕ) (n v : ℕ) → n < length order
+items-more : (a : ℕ) (text order : List ℕ) (n v : ℕ) → n < length order
     → itemsBy a text (set order n v) (n + 1) ≡ itemsBy a text order n ++ (itemFrom a (drop v text) ∷ [])
 unfolding itemsBy
 items-more a text order n v h =
@@ -43,7 +43,7 @@ stars-end t [] e = refl
 stars-end t (c ∷ w) e = rw e refl
 
 -- the item of a byte
-pub star-item : (a : ℕ) (l : List ℕ) (i : ℕ) → startsWith asterisk (drop i l) ≡ true → itemFrom a (drop i l) ≡ repeat
+star-item : (a : ℕ) (l : List ℕ) (i : ℕ) → startsWith asterisk (drop i l) ≡ true → itemFrom a (drop i l) ≡ repeat
 star-item a l i e = ap (itemFrom a) (starts-cons asterisk l i e)
 
 -- one star more
