@@ -1,0 +1,2 @@
+-- The tables of texts: their readings, their items, and plans that are judged by them.
+pub mod Readings
