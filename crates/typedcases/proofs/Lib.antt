@@ -1,2 +1,3 @@
 -- The tables of texts: their readings, their items, and plans that are judged by them.
 pub mod Readings
+pub mod Items

@@ -180,7 +180,7 @@ strange =
     ∷ []
 
 -- 127 pairs of round brackets, which with what they hold are 255 bytes
-abbrev nested : List ℕ → List ℕ
+abbrev pub nested : List ℕ → List ℕ
 nested w = replicate 127 opening ++ w ++ replicate 127 closing
 
 abbrev deep : List TextCase
