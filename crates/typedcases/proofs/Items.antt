@@ -147,10 +147,10 @@ sets =
     ∷ items-of (text "[" ++ replicate 253 97 ++ text "]") only-a (a ∷ [])  -- 255 bytes
     ∷ []
 
--- n more letters in sequence: `;a` each time, and their items
-abbrev more : (letter : String) → ℕ → List ℕ
-more l zero = []
-more l (suc n) = text ";" ++ text l ++ more l n
+-- n more units in sequence, `;a` for each `a`, and the items of those
+abbrev pub more : (unit : String) → ℕ → List ℕ
+more u zero = []
+more u (suc n) = text ";" ++ text u ++ more u n
 
 abbrev sequences : ℕ → List Item
 sequences zero = []
