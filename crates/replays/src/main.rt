@@ -1,8 +1,7 @@
 // Texts by which plans are judged: each case is printed as it was read, with the line of its answer and the row behind it. A case is a
 // line of the input: a letter for the plan, how many places are lent, a blank, and the text. A row is lent with 7 in every place.
 use libc::STDIN_FILENO;
-ghost use mathlib.Core.Path.{_≡_};
-ghost use Prim.Native.Nat.{_≤_, _<_};
+ghost use Prim.Native.Nat.{_≤_};
 ghost use lib.ListN.{length};
 
 // Judges a plan by a text with a row of so many places.
@@ -15,35 +14,30 @@ fn replay(name: &[u8], plan: &[u8], text: &[u8], places: usize)
     shown::print_case(name, answer, row);
 }
 
-// Plans of one job of two nodes, 0 to 1 by event 1.
-fn of_one_job(name: &[u8], which: u8, text: &[u8], places: usize)
+// P, and P with a fault of its own items.
+fn of_p(name: &[u8], which: u8, text: &[u8], places: usize)
     requires { ⌜ places ≤ 8 ⌝ }
 {
-    // P: the alphabet is {1}, the pattern event 1, the kind every
+    // P, and a byte more: one job of two nodes, 0 to 1 by event 1; the alphabet is {1}, the pattern event 1, the kind every
     let p: &[u8] =
-        b"\x08\x08\x02\x00\x00\x00\x06\x00\x00\x00\x00\x08\x00\x04\x00\x04\x20\x30\x00\x00\x00\x00";
+        b"\x08\x08\x02\x00\x00\x00\x06\x00\x00\x00\x00\x08\x00\x04\x00\x04\x20\x30\x00\x00\x00\x00\x00";
     if which == b'P' {
-        replay(name, p, text, places);
+        replay(name, &p[..22], text, places);
     }
-    // P cut short: without its last byte, which is refused by 10
-    if which == b'C' {
+    // P without its last byte, which is refused by 10
+    if which == b'L' {
         replay(name, &p[..21], text, places);
+    }
+    // P with a byte more, which is refused by 15
+    if which == b'M' {
+        replay(name, p, text, places);
     }
 }
 
-// The same with other alphabets and patterns.
+// Plans with larger alphabets.
 fn of_others(name: &[u8], which: u8, text: &[u8], places: usize)
     requires { ⌜ places ≤ 8 ⌝ }
 {
-    // P with its last byte 01, which is refused by 15
-    if which == b'L' {
-        replay(
-            name,
-            b"\x08\x08\x02\x00\x00\x00\x06\x00\x00\x00\x00\x08\x00\x04\x00\x04\x20\x30\x00\x00\x00\x01",
-            text,
-            places,
-        );
-    }
     // P with an alphabet of all 31 events
     if which == b'A' {
         replay(
@@ -53,12 +47,6 @@ fn of_others(name: &[u8], which: u8, text: &[u8], places: usize)
             places,
         );
     }
-}
-
-// Plans with larger patterns of their own.
-fn of_larger(name: &[u8], which: u8, text: &[u8], places: usize)
-    requires { ⌜ places ≤ 8 ⌝ }
-{
     // two jobs: 0 to 1 by event 1, call 1 to 2; accept 3 to 4, 4 to 5 by event 3; the channel gives 2; the pattern is 1, then 2, then 3
     if which == b'T' {
         replay(
@@ -100,9 +88,8 @@ fn replay_line(line: &[u8]) {
     let which = line[0];
     let places = number(line[1]);
     let text = &line[3..];
-    of_one_job(line, which, text, places);
+    of_p(line, which, text, places);
     of_others(line, which, text, places);
-    of_larger(line, which, text, places);
 }
 
 // Where the line ends that begins at `at`.
@@ -132,9 +119,8 @@ fn replay_all(input: &[u8]) {
 
 // Texts that no line holds.
 fn replay_others() {
-    of_one_job(b"a, and a line feed", b'P', b"a\n", 2);
-    of_one_job(b"a zero byte", b'P', b"\x00", 2);
-    of_one_job(b"byte 200", b'P', b"\xc8", 2);
+    of_p(b"a, and a line feed", b'P', b"a\n", 2);
+    of_p(b"byte 200", b'P', b"\xc8", 2);
 }
 
 fn main() {
