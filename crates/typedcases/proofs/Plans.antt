@@ -3,8 +3,7 @@
 use mathlib.Core.Path.{_≡_, refl}
 use mathlib.Core.List.{List, [], _∷_, _++_, map, List·Memᴰ}
 use mathlib.Core.Option.{Option, none, some, Option·none-ne-some}
-use Prim.Native.Nat.{ℕ, zero, suc}
-use Prim.Native.String.{String}
+use Prim.Native.Nat.{ℕ}
 use lib.Count.{ones}
 use lib.ListN.{take, set}
 use Rattle.masks.specs.Mask.{digit, gatherBelow, pairsOf}
@@ -34,8 +33,8 @@ use Rattle.verdict.specs.declared.Counts.{Counts}
 use Rattle.verdict.specs.declared.Answer.{Answer}
 use Rattle.verdict.specs.declared.Answer.the-variants.{Refused, Verified, Inconclusive}
 use Rattle.verdict.specs.Verdict.{finalBelow, rounded}
-use Rattle.verifier.specs.Order.{own, typed}
-use Rattle.verifier.specs.Judged.{Judged, JudgedText}
+use Rattle.verifier.specs.Order.{typed}
+use Rattle.verifier.specs.Judged.{JudgedText}
 use Rattle.verifier.proofs.Evaluate.{Outcome, evaluate, evaluate-judged}
 use Rattle.typed.proofs.Unique.{typed-unique}
 use Rattle.typedcases.proofs.Readings.{readWithin, read-within}
