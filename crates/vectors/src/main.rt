@@ -1,19 +1,6 @@
 // The plans with known verdicts: each is judged, and its line printed, with the row behind it. A row is lent with 7 in every
 // place.
-use libc::STDOUT_FILENO;
 ghost use Prim.Native.Nat.{_≤_};
-
-// Prints what stands in the row, in hexadecimal.
-fn show(row: &[u64]) {
-    io::write_all(STDOUT_FILENO, b"  row");
-    let mut n: usize = 0;
-    while n < row.len() {
-        io::write_all(STDOUT_FILENO, b" ");
-        io::print_hex(STDOUT_FILENO, row[n], 1);
-        n += 1;
-    }
-    io::write_all(STDOUT_FILENO, b"\n");
-}
 
 // Judges a plan with a row of so many places.
 fn replay(name: &[u8], plan: &[u8], places: usize)
@@ -22,12 +9,7 @@ fn replay(name: &[u8], plan: &[u8], places: usize)
     let mut places_lent = [7u64; 16];
     let row: &mut [u64] = &mut places_lent[..places];
     let answer = verifier::judge(plan, row);
-    let line = line::line_of(answer);
-    let bytes = line.bytes;
-    io::write_all(STDOUT_FILENO, name);
-    io::write_all(STDOUT_FILENO, b"\n  ");
-    io::write_all(STDOUT_FILENO, &bytes[..line.used]);
-    show(row);
+    shown::print_case(name, answer, row);
 }
 
 // P, and P cut short or with a short row.

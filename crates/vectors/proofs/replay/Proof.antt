@@ -1,7 +1,6 @@
--- `replay` lends as many places as are asked for, and prints no more than the line holds. Assumes nothing.
-use mathlib.Core.Path.{_≡_}
+-- `replay` lends as many places as are asked for. Assumes nothing.
 use native.Mathlib.Omega.{arith}
-use lib.ListN.{length, length-take}
+use lib.ListN.{length-take}
 use borrow.Author.Needs.{needs}
 use Rattle.vectors.proofs.replay.Statement.{statement}
 use Rattle.vectors.proofs.replay.Tie as tie
@@ -15,35 +14,8 @@ slice-aggregate-row c = simp length-take (omega arith)
 judge-requires : tie.Need-judge-requires
 judge-requires c κs = search needs
 
-line-of-requires : tie.Need-line-of-requires
-line-of-requires c κs = search needs
-
-write-all-requires : tie.Need-write-all-requires
-write-all-requires c κs = search needs
-
-slice-aggregate-write-all : tie.Need-slice-aggregate-write-all
-slice-aggregate-write-all c = search needs
-
-write-all-requires-2 : tie.Need-write-all-requires-2
-write-all-requires-2 c κs = search needs
-
-array-share-prefix-bytes : tie.Need-array-share-prefix-bytes
-array-share-prefix-bytes c =
-    let told = c .before .before .before .before .line-of in
-    let long : length (told .result .bytes) ≡ 128 = search needs in
-    omega (arith, told .ensures .1)
-
-slice-aggregate-write-all-2 : tie.Need-slice-aggregate-write-all-2
-slice-aggregate-write-all-2 c =
-    let told = c .before .before .before .before .before .line-of in
-    let long : length (told .result .bytes) ≡ 128 = search needs in
-    simp length-take (omega (arith, told .ensures .1))
-
-write-all-requires-3 : tie.Need-write-all-requires-3
-write-all-requires-3 c κs = search needs
-
-show-requires : tie.Need-show-requires
-show-requires c κs = search needs
+print-case-requires : tie.Need-print-case-requires
+print-case-requires c κs = search needs
 
 returns : tie.Need-returns
 returns c = search needs
@@ -55,12 +27,5 @@ replay-spec =
     array-borrow-prefix-places-lent
     slice-aggregate-row
     judge-requires
-    line-of-requires
-    write-all-requires
-    slice-aggregate-write-all
-    write-all-requires-2
-    array-share-prefix-bytes
-    slice-aggregate-write-all-2
-    write-all-requires-3
-    show-requires
+    print-case-requires
     returns)

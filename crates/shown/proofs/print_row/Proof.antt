@@ -1,10 +1,10 @@
--- `show` ends with the last place. Assumes nothing.
+-- `print_row` ends with the last place. Assumes nothing.
 use Prim.Native.Nat.{_-_, _≤_}
 use native.Mathlib.Omega.{arith}
 use borrow.Author.Needs.{needs}
 use lib.ListN.{length}
-use Rattle.vectors.proofs.show.Statement.{statement}
-use Rattle.vectors.proofs.show.Tie as tie
+use Rattle.shown.proofs.print_row.Statement.{statement}
+use Rattle.shown.proofs.print_row.Tie as tie
 
 abbrev Inv-loop : tie.InvT-loop
 Inv-loop row n₀ t4 t5 n = n ≤ length row
@@ -54,8 +54,8 @@ write-all-requires-3 c κs = search needs
 returns : tie.Need-returns Inv-loop μ-loop
 returns c = search needs
 
-pub show-spec : {M : Type 1} → statement M
-show-spec =
+pub print-row-spec : {M : Type 1} → statement M
+print-row-spec =
     tie.close
     (tie.spec
     Inv-loop
