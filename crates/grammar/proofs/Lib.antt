@@ -1,4 +1,5 @@
 -- Laws of the grammar.
+pub mod Binding
 pub mod Items
 pub mod Leaves
 pub mod Complete
