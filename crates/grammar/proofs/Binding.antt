@@ -2,21 +2,7 @@
 use mathlib.Core.Path.{refl}
 use mathlib.Core.List.{List, _∷_, _++_}
 use Prim.Native.Nat.{ℕ}
-use Rattle.grammar.specs.Grammar.{
-  Tree,
-  followed,
-  either,
-  choice,
-  sequence,
-  unit,
-  Reads,
-  alone,
-  bars,
-  single,
-  semicolons,
-  semicolon,
-  bar,
-}
+use Rattle.grammar.specs.Grammar.{Tree, followed, either, choice, sequence, unit, Reads, alone, bars, single, semicolons, semicolon, bar}
 
 module _ {u v w : List ℕ} {r s t : Tree} where
   pub semicolons-group-left : Reads unit u r → Reads unit v s → Reads unit w t

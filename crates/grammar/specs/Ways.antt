@@ -1,6 +1,6 @@
 -- How a text is read from left to right. No public promise speaks of it.
 use mathlib.Core.Path.{_≡_}
-use mathlib.Core.Bool.{Bool, true, false, _&&_, cond}
+use mathlib.Core.Bool.{Bool, false, _&&_, cond}
 use mathlib.Core.List.{List, [], _∷_}
 use mathlib.Core.Option.{Option, none, some}
 use Prim.Native.Nat.{ℕ, _-_}
@@ -8,24 +8,7 @@ use lib.Dec.{leb, eqb}
 use lib.ListN.{drop}
 use Rattle.rows.specs.Rows.{row, place}
 use Rattle.regex.specs.Items.{Item, empty, events, sequence, choice, repeat}
-use Rattle.grammar.specs.Grammar.{
-  Tree,
-  emptyString,
-  oneOf,
-  noneOf,
-  followed,
-  either,
-  starred,
-  semicolon,
-  bar,
-  asterisk,
-  nought,
-  opening,
-  closing,
-  openingSet,
-  closingSet,
-  caret,
-}
+use Rattle.grammar.specs.Grammar.{Tree, emptyString, oneOf, noneOf, followed, either, starred, semicolon, bar, asterisk, nought, opening, closing, openingSet, closingSet, caret}
 use Rattle.grammar.specs.Meaning.{listed, without}
 
 -- what a reader comes to: the tree of what it has read, and the bytes behind it; or that there is none

@@ -1,26 +1,14 @@
 -- Where a letter, the empty string or a set ends, by the byte at a place.
-use mathlib.Core.Path.{_≡_, refl, sym, ap, _∙_, subst}
+use mathlib.Core.Path.{_≡_, refl, sym, ap, _∙_}
 use mathlib.Core.Bool.{Bool, true, false, cond}
 use mathlib.Core.List.{List, [], _∷_}
-use Prim.Native.Nat.{ℕ, _+_, _≤_, _<_}
+use Prim.Native.Nat.{ℕ, _+_, _<_}
 use native.Mathlib.Omega.{arith}
 use lib.Dec.{eqb}
 use lib.ListN.{length, drop}
 use Rattle.rows.specs.Rows.{place}
 use Rattle.grammar.specs.Grammar.{Tree, emptyString, oneOf, noneOf, nought, openingSet, closingSet, caret}
-use Rattle.grammar.specs.Ways.{
-  Outcome,
-  broken,
-  upTo,
-  startsWith,
-  isLetter,
-  eventOf,
-  letters,
-  pastLetters,
-  listing,
-  inSet,
-  leaf,
-}
+use Rattle.grammar.specs.Ways.{Outcome, broken, upTo, startsWith, isLetter, eventOf, letters, pastLetters, listing, inSet, leaf}
 use Rattle.leaves.specs.declared.End.{End}
 use Rattle.leaves.specs.declared.End.the-variants.{Broken, Next}
 use Rattle.leaves.specs.Ends.{Ends}

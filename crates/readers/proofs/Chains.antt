@@ -1,37 +1,14 @@
 -- How the reader of a chain goes on: operand by operand, for choices and sequences alike.
-use mathlib.Core.Path.{_≡_, refl, sym, ap, subst, _∙_}
+use mathlib.Core.Path.{_≡_, sym, ap, subst, _∙_}
 use mathlib.Core.Bool.{true, false}
-use mathlib.Core.List.{List, [], _∷_, _++_}
-use Prim.Native.Nat.{ℕ, _+_, _-_, _*_, _≤_, _<_}
+use mathlib.Core.List.{List, _++_}
+use Prim.Native.Nat.{ℕ, _+_, _-_, _≤_, _<_}
 use native.Mathlib.Omega.{arith}
 use lib.ListN.{length, drop, set, length-set}
 use Rattle.rows.specs.Rows.{row}
 use Rattle.grammar.specs.Grammar.{Tree, opening, closing}
 use Rattle.grammar.specs.Meaning.{itemsOf}
-use Rattle.grammar.specs.Ways.{
-  Outcome,
-  broken,
-  upTo,
-  startsWith,
-  Chain,
-  operator,
-  operand,
-  joined,
-  chain,
-  onward,
-  oneUnit,
-  choices,
-  Way,
-  begins,
-  fails,
-  ends,
-  joins,
-  lacks,
-  inside,
-  unclosed,
-  within,
-  itemsBy,
-}
+use Rattle.grammar.specs.Ways.{Outcome, broken, upTo, startsWith, Chain, operator, operand, joined, chain, onward, oneUnit, choices, Way, begins, ends, joins, lacks, inside, unclosed, within, itemsBy}
 use Rattle.leaves.proofs.Bytes.{starts-cons, starts-within}
 use Rattle.readers.specs.declared.Reached.{Reached}
 use Rattle.readers.specs.declared.Reached.the-variants.{Broken, Next}

@@ -1,10 +1,9 @@
 -- The order of places in which the readers keep items: one more place, and what stars do to it.
-use mathlib.Core.Path.{_≡_, refl, sym, ap, _∙_, subst}
-use mathlib.Core.Bool.{Bool, true, false, cond}
+use mathlib.Core.Path.{_≡_, refl, sym, ap, _∙_}
+use mathlib.Core.Bool.{true, false}
 use mathlib.Core.List.{List, [], _∷_, _++_, append-assoc}
-use Prim.Native.Nat.{ℕ, suc, _+_, _≤_, _<_}
+use Prim.Native.Nat.{ℕ, suc, _+_, _<_}
 use native.Mathlib.Omega.{arith}
-use lib.Dec.{eqb}
 use lib.ListN.{length, drop, set}
 use lib.Seq.{getD-set-same, getD-set-other}
 use Rattle.rows.specs.Rows.{row, place}
@@ -12,7 +11,7 @@ use Rattle.rows.proofs.Rows.{row-ext}
 use Rattle.regex.specs.Items.{Item, sequence, choice, repeat}
 use Rattle.grammar.specs.Grammar.{Tree, starred, semicolon, bar, asterisk}
 use Rattle.grammar.specs.Meaning.{itemsOf}
-use Rattle.grammar.specs.Ways.{Outcome, broken, upTo, startsWith, leaf, stars, Chain, choices, sequences, operator, joined, itemFrom, itemsBy}
+use Rattle.grammar.specs.Ways.{upTo, startsWith, leaf, stars, Chain, choices, sequences, operator, joined, itemFrom, itemsBy}
 use Rattle.grammar.proofs.Leaves.{leaf-item}
 use Rattle.leaves.proofs.Bytes.{starts-cons}
 use Rattle.readers.specs.Readers.{Continued}

@@ -7,7 +7,7 @@ use lib.ListN.{length, drop}
 use Rattle.regex.specs.Items.{Item}
 use Rattle.grammar.specs.Grammar.{Tree, closing}
 use Rattle.grammar.specs.Meaning.{itemsOf}
-use Rattle.grammar.specs.Ways.{Outcome, broken, upTo, startsWith, stars, chain, choices, itemsBy, Task, Way}
+use Rattle.grammar.specs.Ways.{broken, upTo, startsWith, stars, chain, choices, itemsBy, Task, Way}
 use Rattle.readers.specs.declared.Reached.{Reached}
 use Rattle.readers.specs.declared.Reached.the-variants.{Broken, Next}
 

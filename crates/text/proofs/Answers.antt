@@ -14,7 +14,7 @@ use Rattle.plan.specs.Checks.{first, orElse, any}
 use Rattle.items.specs.declared.ItemsRead.{ItemsRead}
 use Rattle.items.specs.Tables.{answered}
 use Rattle.grammar.specs.Grammar.{Tree, Reads, choice, Reading}
-use Rattle.grammar.specs.Meaning.{itemsOf, lettersOf, unreadable, manyItems, strangeLetter, textRefusals, typedItems}
+use Rattle.grammar.specs.Meaning.{itemsOf, unreadable, manyItems, strangeLetter, textRefusals, typedItems}
 use Rattle.grammar.specs.Ways.{broken, upTo, chain, choices, Way, itemsBy, typedLetters}
 use Rattle.grammar.proofs.Unique.{way-reading}
 use Rattle.grammar.proofs.Letters.{reads-letters}

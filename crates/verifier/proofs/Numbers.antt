@@ -1,5 +1,5 @@
 -- No refusal of a plan has the number 0. Assumes nothing.
-use mathlib.Core.Path.{_≡_, refl, sym, ap, _∙_}
+use mathlib.Core.Path.{_≡_, sym, ap, _∙_}
 use mathlib.Core.Bool.{Bool, true, false, _&&_, cond}
 use mathlib.Core.List.{List, [], _∷_}
 use mathlib.Core.Option.{Option, none, some, Option·some-injective}
@@ -12,7 +12,7 @@ use Rattle.plan.specs.Checks.{Check, refuse, first, orElse}
 use Rattle.plan.specs.Refusals.{tooShort, countsWrong, cutShort, filled, wrongSizes, strayEnds, splitEnds, exitLeft, noChannel, framing, shape, order}
 use Rattle.plan.proofs.Tests.{first-append, first-last, first-said}
 use Rattle.item.specs.Faults.{Point, cut, kindAt, setAt, itemAt, isEvents, strange, faults}
-use Rattle.items.specs.Refusals.{Read, faulty, upTo, Spot, pointOf, judged, oneMore, read, notOne, trailing, leftovers, refusalOf, itemsRefusal}
+use Rattle.items.specs.Refusals.{Read, faulty, upTo, Spot, pointOf, judged, oneMore, read, notOne, trailing, refusalOf, itemsRefusal}
 use Rattle.grammar.specs.Meaning.{unreadable, manyItems, strangeLetter}
 use Rattle.pattern.specs.Refusals.{rest, badItems, readable}
 use Rattle.verifier.specs.Order.{Pattern, own, typed, textRefusal, manyStates, shortRow, judgeable}

@@ -1,11 +1,11 @@
 -- `leaf_end` goes by the first byte. Assumes nothing.
-use mathlib.Core.Path.{_≡_, sym, ap, subst, _∙_}
+use mathlib.Core.Path.{sym, ap, subst, _∙_}
 use mathlib.Core.Bool.{true, false}
 use mathlib.Core.List.{[], _∷_}
-use Prim.Native.Nat.{ℕ, _+_, _<_}
+use Prim.Native.Nat.{_+_}
 use native.Mathlib.Omega.{arith}
 use borrow.Author.Tests.{eq-eqb, ne-eqb}
-use lib.ListN.{length, drop, drop-of-length-le}
+use lib.ListN.{drop, drop-of-length-le}
 use Rattle.rows.specs.Rows.{place}
 use Rattle.grammar.specs.Grammar.{emptyString, oneOf}
 use Rattle.grammar.specs.Ways.{Outcome, eventOf, inSet, leaf}

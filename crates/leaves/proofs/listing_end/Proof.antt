@@ -1,9 +1,7 @@
 -- `listing_end` finds the bracket behind the letters, or another byte. Assumes nothing.
-use mathlib.Core.Path.{_≡_, sym, _∙_}
-use mathlib.Core.List.{List}
-use Prim.Native.Nat.{ℕ}
+use mathlib.Core.Path.{sym, _∙_}
 use native.Mathlib.Omega.{arith}
-use lib.ListN.{length, drop}
+use lib.ListN.{drop}
 use Rattle.grammar.specs.Grammar.{closingSet}
 use Rattle.grammar.specs.Ways.{letters}
 use Rattle.leaves.proofs.Bytes.{starts-within}

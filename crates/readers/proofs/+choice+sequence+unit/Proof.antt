@@ -10,7 +10,7 @@ use lib.ListN.{length, drop}
 use borrow.Author.Needs.{needs}
 use borrow.Fn.Kinds.{In}
 use Rattle.grammar.specs.Grammar.{opening}
-use Rattle.grammar.specs.Ways.{startsWith, choices, sequences, operator, operand, chain, oneUnit, fails}
+use Rattle.grammar.specs.Ways.{startsWith, choices, sequences, operator, operand, chain, fails}
 use Rattle.leaves.proofs.Bytes.{starts-within}
 use Rattle.readers.specs.declared.Reached.{Reached}
 use Rattle.readers.specs.Readers.{Onward, Went}

@@ -1,10 +1,9 @@
 -- `plain` puts the place of a leaf into the order, and the stars behind it. Assumes nothing.
-use mathlib.Core.Path.{_≡_, refl, sym, ap, subst, _∙_}
-use Prim.Native.Nat.{ℕ, _+_, _≤_, _<_}
+use mathlib.Core.Path.{sym, subst, _∙_}
+use Prim.Native.Nat.{_<_}
 use native.Mathlib.Omega.{arith}
 use lib.ListN.{length, drop, length-set}
-use Rattle.grammar.specs.Grammar.{Tree}
-use Rattle.grammar.specs.Ways.{Outcome, leaf, plain, unfit, itemsBy}
+use Rattle.grammar.specs.Ways.{leaf, plain, unfit, itemsBy}
 use Rattle.leaves.specs.declared.End.{End}
 use Rattle.leaves.specs.declared.End.the-variants.{Next}
 use Rattle.leaves.specs.Ends.{Ends}

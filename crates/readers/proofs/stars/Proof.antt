@@ -1,12 +1,11 @@
 -- `stars` goes on while it finds stars: each is one item more, and the tree a starred one. Assumes nothing.
-use mathlib.Core.Path.{_≡_, refl, sym, ap, subst, _∙_}
+use mathlib.Core.Path.{_≡_, sym, ap, subst, _∙_}
 use mathlib.Core.Bool.{true}
-use mathlib.Core.List.{List, _++_}
 use Prim.Native.Nat.{ℕ, _+_, _-_, _≤_, _<_}
 use native.Mathlib.Omega.{arith}
 use lib.ListN.{length, drop, set, length-set}
 use Rattle.grammar.specs.Grammar.{Tree, starred, asterisk}
-use Rattle.grammar.specs.Ways.{Outcome, upTo, startsWith, stars}
+use Rattle.grammar.specs.Ways.{startsWith, stars}
 use Rattle.leaves.proofs.Bytes.{starts-within}
 use Rattle.readers.specs.Readers.{Continued}
 use Rattle.readers.proofs.Orders.{star-more, stars-end, starred-on}

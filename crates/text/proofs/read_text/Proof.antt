@@ -1,13 +1,11 @@
 -- `read_text` goes through the refusals 18 to 20. Assumes nothing.
-use mathlib.Core.Path.{_≡_, sym, ap, subst, _∙_}
+use mathlib.Core.Path.{sym, ap, subst, _∙_}
 use mathlib.Core.List.{List, []}
-use Prim.Native.Nat.{ℕ, _≤_, _<_}
+use Prim.Native.Nat.{ℕ, _≤_}
 use native.Mathlib.Omega.{arith}
 use lib.ListN.{length}
 use Rattle.plan.specs.declared.Outcome.the-variants.{Accepted}
-use Rattle.regex.specs.Items.{Item}
-use Rattle.items.specs.declared.ItemsRead.{ItemsRead}
-use Rattle.items.specs.Tables.{answered, itemTable}
+use Rattle.items.specs.Tables.{itemTable}
 use Rattle.grammar.specs.Meaning.{itemsOf}
 use Rattle.grammar.specs.Ways.{upTo, chain, choices, Way}
 use Rattle.readers.specs.declared.Reached.{Reached}
