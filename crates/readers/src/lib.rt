@@ -120,7 +120,8 @@ fn choice(text: &[u8], from: usize, order: &mut [u8; 256], already: usize) -> Re
     Reached::Next(at, count)
 }
 
-// What a text begins with, in a lent order that holds nothing yet.
+// The choice with which a text begins, its items in a lent order. What the order holds behind them, or where there is no choice, is
+// left open.
 pub fn read_choice(text: &[u8], order: &mut [u8; 256]) -> Reached
     requires { ⌜ (length (now text) ≤ 255) × (length (now order) ≡ 256) ⌝ }
     ensures { λ r. ⌜ Read (now (text .entry)) (now (order .exit)) r ⌝ }

@@ -1,2 +1,3 @@
 -- Laws of the reader of texts.
 pub mod Answers
+pub mod Unique

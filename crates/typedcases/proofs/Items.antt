@@ -16,8 +16,8 @@ use Rattle.grammar.specs.Grammar.{Tree, Reading, asterisk}
 use Rattle.grammar.specs.Meaning.{listed, itemsOf, lettersOf, textRefusals, typedItems}
 use Rattle.grammar.specs.Ways.{letters, pastLetters, stars}
 use Rattle.grammar.proofs.Evaluate.{run}
-use Rattle.grammar.proofs.Unique.{one-reading}
 use Rattle.text.specs.Typed.{Typed}
+use Rattle.text.proofs.Unique.{read-unique}
 use Rattle.typedcases.proofs.Readings.{readWithin, read-within, nested}
 
 -- ---- an executable reader
@@ -64,8 +64,7 @@ module _ (n : ℕ) (w : List ℕ) (a : ℕ) (x : Reply) (e : Option·map (replyO
       subst (λ (r : ItemsRead). Typed w a r) read-answer (record { tree = read-tree .0; reading = read-reading; answer = refl })
 
   reply-known : (r : ItemsRead) → Typed w a r → r ≡ answered (x .0) (x .1)
-  reply-known r told =
-      told .answer ∙ ap (answerOf w a) (one-reading w (told .tree) (read-tree .0) (told .reading) read-reading) ∙ read-answer
+  reply-known r told = read-unique w a r (answered (x .0) (x .1)) told reply-typed
 
 -- ---- texts under alphabets
 
