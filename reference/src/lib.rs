@@ -13,11 +13,12 @@ mod text;
 
 use std::ops::Range;
 
+pub use flow::add_members;
 pub use pattern::Automaton;
 pub use plan::{Item, Job, Kind, Link, Plan, Step};
 pub use text::read_text;
 
-use flow::Graph;
+use flow::{Family, Graph};
 
 /// The counts that come with a verdict, and the final set, in which state s
 /// has weight 2^s.
@@ -86,9 +87,9 @@ fn answer(accepted: Result<(Plan, Automaton), u32>, row: &mut [u64]) -> Answer {
         return Answer::Refused(17);
     };
     let graph = Graph::of(&plan);
-    let sets = graph.sets(&automaton);
-    let counts = count(&plan, &automaton, &graph, &sets);
-    places.copy_from_slice(&sets);
+    let family = graph.family(&automaton);
+    let counts = count(&plan, &automaton, &graph, &family);
+    places.copy_from_slice(&family.sets);
     if verified(plan.kind, &automaton, counts.final_set) {
         Answer::Verified(counts)
     } else {
@@ -96,12 +97,12 @@ fn answer(accepted: Result<(Plan, Automaton), u32>, row: &mut [u64]) -> Answer {
     }
 }
 
-fn count(plan: &Plan, automaton: &Automaton, graph: &Graph, sets: &[u64]) -> Counts {
+fn count(plan: &Plan, automaton: &Automaton, graph: &Graph, family: &Family) -> Counts {
     let states = automaton.states() as u32;
-    // The pairs are the members of all sets, counted together.
-    let pairs = sets.iter().map(|set| set.count_ones()).sum();
+    // The pairs are the tally as it ended (order 2).
+    let pairs = family.pairs;
     // The final set is the intersection of the sets at all exits.
-    let exits = plan.jobs.iter().map(|job| sets[job.exit]);
+    let exits = plan.jobs.iter().map(|job| family.sets[job.exit]);
     Counts {
         states,
         meetings: graph.meetings() as u32,

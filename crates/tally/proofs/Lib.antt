@@ -1,0 +1,4 @@
+-- Laws of the tally.
+pub mod News
+pub mod Tally
+pub mod Cases

@@ -1,0 +1,2 @@
+-- A running tally of pairs.
+pub mod Tally
