@@ -2,6 +2,7 @@
 
 use crate::draft::Item;
 use crate::fault_in_bytes::{self, mangle, noise};
+use crate::filled::filled;
 use crate::layout::{alphabet, NODES};
 use crate::random::Random;
 use crate::sound::{any_scale, sound};
@@ -29,7 +30,11 @@ pub fn make(seed: u64, number: u64) -> Case {
     let refusal = |random: &mut Random| random.within(1..=SHORT_ROW);
     match random.weighted(&[50, 22, 14, 10, 4]) {
         0 => {
-            let draft = sound(any_scale(random), random);
+            let draft = if random.one_in(200) {
+                filled(random)
+            } else {
+                sound(any_scale(random), random)
+            };
             unfaulted(draft.encode(), &draft.items, random)
         }
         1 => {

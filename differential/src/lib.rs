@@ -7,6 +7,7 @@ pub mod draft;
 mod fault_in_bytes;
 mod fault_in_items;
 mod fault_in_jobs;
+mod filled;
 mod hex;
 mod layout;
 mod pattern;

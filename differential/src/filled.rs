@@ -1,0 +1,54 @@
+//! Plans in which every node holds every one of 64 states: 16,384 pairs, the most that there can be.
+
+use crate::draft::{Arc, Draft, Item, Job};
+use crate::random::Random;
+
+const NODES: u32 = 256;
+
+/// Jobs of one size, a quiet step from each node to the next, and an event of the alphabet that comes again and again at some entries.
+pub fn filled(random: &mut Random) -> Draft {
+    let event = random.within(1..=31);
+    let count = random.pick(&[1, 2, 4, 8, 16]);
+    let size = NODES / count;
+    let jobs: Vec<Job> = (0..count)
+        .map(|job| Job {
+            size,
+            entry: job * size,
+            exit: (job + 1) * size - 1,
+        })
+        .collect();
+    let quiet = jobs.iter().flat_map(|job| job.entry..job.exit);
+    let mut steps: Vec<Arc> = quiet.map(|node| step(node, node + 1, 0)).collect();
+    let moved = random.within(1..=count);
+    steps.extend(
+        jobs.iter()
+            .take(moved as usize)
+            .map(|job| step(job.entry, job.entry, event)),
+    );
+    random.shuffle(&mut steps);
+    Draft {
+        nodes: NODES,
+        kind: random.within(0..=1),
+        alphabet: 1 << event,
+        jobs,
+        steps,
+        channels: vec![],
+        calls: vec![],
+        accepts: vec![],
+        items: [cycle(event, 7), cycle(event, 9), vec![Item::Choice]].concat(),
+    }
+}
+
+fn step(from: u32, to: u32, label: u32) -> Arc {
+    Arc { from, to, label }
+}
+
+/// So many times the event, again and again. Cycles of 7 and of 9 side by side have 63 states and the beginning.
+fn cycle(event: u32, length: u32) -> Vec<Item> {
+    let mut items = vec![Item::Events(1 << event)];
+    for _ in 1..length {
+        items.extend([Item::Events(1 << event), Item::Sequence]);
+    }
+    items.push(Item::Star);
+    items
+}
