@@ -52,3 +52,21 @@ fn cycle(event: u32, length: u32) -> Vec<Item> {
     items.push(Item::Star);
     items
 }
+
+#[cfg(test)]
+mod tests {
+    use super::*;
+    use crate::runs::least::{least, HELD};
+    use reference::{Automaton, Plan};
+
+    #[test]
+    fn every_node_holds_every_state() {
+        for number in 0..40 {
+            let draft = filled(&mut Random::for_plan(7, number));
+            let plan = Plan::read(&draft.encode()).unwrap();
+            let automaton = Automaton::of(&plan).unwrap();
+            let sets = least(&plan, &automaton, HELD);
+            assert_eq!(sets, [u64::MAX; NODES as usize], "plan {number}");
+        }
+    }
+}

@@ -1,8 +1,10 @@
 //! The running tally of pairs (order 2): the addition by itself, and the pairs
 //! of verdicts against a recount of the sets.
 
+mod dice;
 mod draft;
 
+use dice::Dice;
 use draft::{counts, events, set, Draft, NONE, P};
 use reference::{add_members, judge, judge_text, Answer, Item};
 
@@ -133,7 +135,7 @@ fn known_plans() {
         ..Draft::p()
     };
     assert_eq!(pairs(&of_kind_none), 2);
-    assert_eq!(pairs(&Draft::two_jobs()), 18);
+    assert_eq!(pairs(&Draft::two_jobs()), 8);
     assert_eq!(pairs(&Draft::many_states(4)), 1);
 
     let one_node = Draft {
@@ -169,7 +171,7 @@ fn known_plans() {
 /// The two jobs under texts: each verdict has its own tally from 0 on.
 #[test]
 fn typed_patterns() {
-    for (text, expected) in [("a;b;c", 18), ("0", 8), ("[abc]*", 8), ("a*", 12)] {
+    for (text, expected) in [("a;b;c", 8), ("0", 7), ("[abc]*", 7), ("a*", 7)] {
         let typed = |plan: &[u8], row: &mut [u64]| judge_text(plan, text.as_bytes(), row);
         let (answer, row) = Draft::two_jobs().judge_by(typed);
         assert_eq!(assert_recounted(answer, &row), expected, "{text}");
@@ -259,18 +261,7 @@ fn nodes_that_gain_one_state_at_a_time() {
     assert_eq!(pairs(&chain), 1);
 }
 
-/// Numbers that look thrown at random, the same in every test run.
-struct Dice(u64);
-
 impl Dice {
-    fn below(&mut self, bound: u64) -> u64 {
-        self.0 = self
-            .0
-            .wrapping_mul(6_364_136_223_846_793_005)
-            .wrapping_add(1_442_695_040_888_963_407);
-        (self.0 >> 33) % bound
-    }
-
     fn up_to(&mut self, most: u64) -> u64 {
         self.below(most + 1)
     }
@@ -323,5 +314,5 @@ fn plans_thrown_at_random() {
     for _ in 0..2_000 {
         highest = highest.max(pairs(&dice.draft()));
     }
-    assert!(highest > 4_096, "{highest}");
+    assert!(highest > 2_048, "{highest}");
 }

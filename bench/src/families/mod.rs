@@ -1,5 +1,6 @@
 //! The families of plans, each with its members by growing size.
 
+mod handed;
 mod jobs;
 mod largest;
 mod tiny;
@@ -24,7 +25,7 @@ pub struct Member {
 }
 
 pub fn all() -> Vec<Family> {
-    vec![
+    let mut families = vec![
         tiny::family(),
         typed::family(),
         sized("chain", "nodes", &[8, 32, 64, 128, 256], jobs::chain),
@@ -34,7 +35,9 @@ pub fn all() -> Vec<Family> {
         counter(),
         sized("slow", "chain", &[15, 30, 60, 120, 226], largest::slow),
         largest::family(),
-    ]
+    ];
+    families.extend(handed::families());
+    families
 }
 
 /// One pattern after the other, of more and more states, over the same looping jobs.

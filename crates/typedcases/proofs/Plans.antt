@@ -106,14 +106,16 @@ short = 7 ∷ []
 -- the plan of two jobs, whose own pattern is `a;b;c`
 abbrev of-two-jobs : List TypedCase
 of-two-jobs =
-    inconclusive two-jobs (text "a;b;c") eight (counts 5 1 6 18 60 20) (21 ∷ 22 ∷ 28 ∷ 7 ∷ 14 ∷ 22 ∷ 7 ∷ 8 ∷ [])
-    ∷ inconclusive two-jobs (text "a;(b;c)") eight (counts 5 1 6 18 60 20) (21 ∷ 22 ∷ 28 ∷ 7 ∷ 14 ∷ 22 ∷ 7 ∷ 8 ∷ [])
-    ∷ verified two-jobs (text "[^]*") eight (counts 2 1 6 8 67 2) (3 ∷ 2 ∷ 2 ∷ 3 ∷ 2 ∷ 2 ∷ 7 ∷ 8 ∷ [])  -- every string
-    ∷ inconclusive two-jobs (text "b;a;c") eight (counts 5 1 6 8 27 2) (3 ∷ 2 ∷ 2 ∷ 3 ∷ 2 ∷ 2 ∷ 7 ∷ 8 ∷ [])
-    ∷ inconclusive two-jobs (text "[^c]*;c") eight (counts 4 1 6 17 71 14) (13 ∷ 14 ∷ 14 ∷ 11 ∷ 10 ∷ 14 ∷ 7 ∷ 8 ∷ [])
+    verified two-jobs (text "a;b;c") eight (counts 5 1 6 8 27 16) (1 ∷ 2 ∷ 24 ∷ 3 ∷ 8 ∷ 16 ∷ 7 ∷ 8 ∷ [])
+    ∷ verified two-jobs (text "a;(b;c)") eight (counts 5 1 6 8 27 16) (1 ∷ 2 ∷ 24 ∷ 3 ∷ 8 ∷ 16 ∷ 7 ∷ 8 ∷ [])
+    ∷ verified two-jobs (text "[^]*") eight (counts 2 1 6 7 58 2) (1 ∷ 2 ∷ 2 ∷ 3 ∷ 2 ∷ 2 ∷ 7 ∷ 8 ∷ [])  -- every string
+    ∷ inconclusive two-jobs (text "b;a;c") eight (counts 5 1 6 7 23 2) (1 ∷ 2 ∷ 2 ∷ 3 ∷ 2 ∷ 2 ∷ 7 ∷ 8 ∷ [])
+    ∷ verified two-jobs (text "[^c]*;c") eight (counts 4 1 6 9 38 4) (1 ∷ 6 ∷ 6 ∷ 3 ∷ 2 ∷ 4 ∷ 7 ∷ 8 ∷ [])
+    -- event 3 at some time after event 1
+    ∷ verified two-jobs (text "[^]*;a;[^]*;c;[^]*") eight (counts 9 1 6 8 15 32) (1 ∷ 2 ∷ 48 ∷ 3 ∷ 16 ∷ 32 ∷ 7 ∷ 8 ∷ [])
     -- of kind none
-    ∷ inconclusive (set two-jobs 5 0x06) (text "a;b;c") eight (counts 5 1 6 18 60 20) (21 ∷ 22 ∷ 28 ∷ 7 ∷ 14 ∷ 22 ∷ 7 ∷ 8 ∷ [])
-    ∷ verified (set two-jobs 5 0x06) (text "b;a;c") eight (counts 5 1 6 8 27 2) (3 ∷ 2 ∷ 2 ∷ 3 ∷ 2 ∷ 2 ∷ 7 ∷ 8 ∷ [])
+    ∷ inconclusive (set two-jobs 5 0x06) (text "a;b;c") eight (counts 5 1 6 8 27 16) (1 ∷ 2 ∷ 24 ∷ 3 ∷ 8 ∷ 16 ∷ 7 ∷ 8 ∷ [])
+    ∷ verified (set two-jobs 5 0x06) (text "b;a;c") eight (counts 5 1 6 7 23 2) (1 ∷ 2 ∷ 2 ∷ 3 ∷ 2 ∷ 2 ∷ 7 ∷ 8 ∷ [])
     ∷ []
 
 -- P, whose own pattern is `a`

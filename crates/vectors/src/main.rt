@@ -113,6 +113,46 @@ fn more_jobs() {
     );
 }
 
+// Ordering edges, which hand on the move of a state to the nodes that hold the state.
+fn ordering_edges() {
+    // one job goes 0 to 1 to 2 by events 1 and 2; the other stays at node 3, and its exit 4 is out of reach; the pattern is 1, then 2
+    replay(
+        b"an onlooker",
+        b"\x10\x14\x04\x00\x00\x00\x0f\x00\x00\x00\x00\x0c\x00\x08\x04\x06\x08\x00\x02\x10\x10\x21\x00\x30\x00\x00\x00\x0a\x00\x00\x00\x04",
+        5,
+    );
+    // two jobs meet by event 1, 0 to 1 and 2 to 3, and the second goes on to 4 by event 2; the same pattern
+    replay(
+        b"a meeting, then a step",
+        b"\x10\x14\x02\x02\x02\x04\x0f\x00\x00\x00\x00\x08\x00\x04\x06\x04\x08\x06\x08\x20\x80\x00\x80\x04\x06\x00\x30\x00\x00\x00\x0a\x00\x00\x00\x04",
+        5,
+    );
+    // 0 to 1 quiet, 0 to 2 and 1 to 2 by event 1, 1 to 2 by event 2; the other job is node 3; the same pattern
+    replay(
+        b"handed on in two ways",
+        b"\x10\x10\x08\x00\x00\x00\x0f\x00\x00\x00\x00\x0c\x00\x08\x02\x06\x06\x00\x02\x00\x00\x20\x80\x81\x04\x04\x08\x40\x30\x00\x00\x00\x0a\x00\x00\x00\x04",
+        4,
+    );
+    // two jobs meet by event 1, 0 to 1 and 2 to 3, and a third goes 4 to 5 by event 2; the same pattern
+    replay(
+        b"a third job that moves",
+        b"\x18\x18\x02\x02\x02\x04\x0f\x00\x00\x00\x00\x08\x00\x04\x04\x04\x06\x02\x04\x05\x04\x05\x10\x40\x00\x40\x02\x03\x00\x30\x00\x00\x00\x0a\x00\x00\x00\x04",
+        6,
+    );
+    // two jobs that never meet, 0 to 1 by event 1 and 2 to 3 by event 2; the pattern is 1 and 2 in either order
+    replay(
+        b"side by side, in either order",
+        b"\x10\x10\x04\x00\x00\x00\x1f\x00\x00\x00\x00\x08\x00\x04\x04\x04\x06\x00\x02\x10\x20\x31\x00\x30\x00\x00\x00\x0a\x00\x00\x00\x04\x50\x00\x00\x00\x18\x00\x00\x00\x09\x80",
+        5,
+    );
+    // the same with event 1 for both; the alphabet is {1}, the pattern 1, then 1
+    replay(
+        b"side by side, both by event 1",
+        b"\x10\x10\x04\x00\x00\x00\x0e\x00\x00\x00\x00\x08\x00\x04\x04\x04\x06\x00\x02\x10\x20\x30\x80\x30\x00\x00\x00\x0c\x00\x00\x00\x04",
+        5,
+    );
+}
+
 // Heads and jobs that are refused, a plan for each number that is not yet among them.
 fn refused_jobs() {
     // P with 17 jobs
@@ -203,6 +243,7 @@ fn main() {
     nothing_watched();
     many_states();
     more_jobs();
+    ordering_edges();
     refused_jobs();
     refused_steps();
     refused_items();

@@ -1,9 +1,9 @@
 -- Plans with known verdicts: the bytes of a plan and a lent row, the answer to them and the row in the end, by evaluation.
--- Document 01, "Plans with known verdicts" and "Errors an analyst makes".
+-- Document 01, "Plans with known verdicts" and "Errors an analyst makes", and document 02, order 3.
 use mathlib.Core.Path.{_≡_, refl}
 use mathlib.Core.List.{List, [], _∷_, _++_, map, List·Memᴰ}
 use mathlib.Core.Option.{Option, some}
-use Prim.Native.Nat.{ℕ, _^_}
+use Prim.Native.Nat.{ℕ, _+_, _^_}
 use lib.Count.{ones}
 use lib.ListN.{length, take, set}
 use Rattle.masks.specs.Mask.{digit, gatherBelow, pairsOf}
@@ -19,7 +19,7 @@ use Rattle.regex.specs.Positions as positions
 use Rattle.numbering.specs.Numbering.{index, collect, build, states}
 use Rattle.item.specs.Faults.{itemAt}
 use Rattle.items.specs.Refusals.{read, itemsRefusal}
-use Rattle.items.proofs.Cases.{kind, one}
+use Rattle.items.proofs.Cases.{kind, one, sequence, choice}
 use Rattle.automaton.specs.Automaton.{watchedBelow, statesOf, tableOf, acceptingBelow}
 use Rattle.pattern.proofs.Cases.{two-jobs, distance}
 use Rattle.graph.specs.Edges.{each, meetingsOf, edgesOf}
@@ -34,22 +34,35 @@ use Rattle.verifier.proofs.Evaluate.{Outcome, evaluate, evaluate-judged
 
 -- ---- plans
 
--- a plan from its parts, with a pattern of one item; "kind 1 (0 every, 1 none)"
-abbrev plan : (flag nodes alphabet : ℕ) → (pattern : Fields) → (jobs steps channels calls accepts : List Fields) → List ℕ
-plan flag nodes alphabet pattern jobs steps channels calls accepts =
+-- a plan from its parts; "kind 1 (0 every, 1 none)"
+abbrev plan : (flag nodes alphabet : ℕ) → (items jobs steps channels calls accepts : List Fields) → List ℕ
+plan flag nodes alphabet items jobs steps channels calls accepts =
     packed ((length jobs, 5) ∷ (nodes, 9) ∷ (length steps, 9) ∷ (length calls, 8) ∷ (length accepts, 8) ∷ (length channels, 7)
-    ∷ (flag, 1) ∷ (1, 7) ∷ (alphabet, 31) ∷ each (jobs ++ steps ++ channels ++ calls ++ accepts) (λ f. f)) ++ packed pattern
+    ∷ (flag, 1) ∷ (length items, 7) ∷ (alphabet, 31) ∷ each (jobs ++ steps ++ channels ++ calls ++ accepts) (λ f. f)) ++ packed (each items (λ f. f))
 
 -- "alphabet and pattern of P", of kind every, and of kind none
 abbrev of-every : (nodes : ℕ) → (jobs steps channels calls accepts : List Fields) → List ℕ
-of-every nodes = plan 0 nodes (2 ^ 30) (one (1 ∷ []))
+of-every nodes = plan 0 nodes (2 ^ 30) (one (1 ∷ []) ∷ [])
 
 abbrev of-none : (nodes : ℕ) → (jobs steps channels calls accepts : List Fields) → List ℕ
-of-none nodes = plan 1 nodes (2 ^ 30) (one (1 ∷ []))
+of-none nodes = plan 1 nodes (2 ^ 30) (one (1 ∷ []) ∷ [])
 
 -- "Alphabet empty, pattern the empty string."
 abbrev quiet : (nodes : ℕ) → (jobs steps channels calls accepts : List Fields) → List ℕ
-quiet nodes = plan 0 nodes 0 (kind 0)
+quiet nodes = plan 0 nodes 0 (kind 0 ∷ [])
+
+-- the alphabet of 1 and 2, and the patterns "1 then 2", 1 and 2 in either order
+abbrev one-two : (nodes : ℕ) → (jobs steps channels calls accepts : List Fields) → List ℕ
+one-two nodes = plan 0 nodes (2 ^ 30 + 2 ^ 29) (one (1 ∷ []) ∷ one (2 ∷ []) ∷ sequence ∷ [])
+
+abbrev either-order : (nodes : ℕ) → (jobs steps channels calls accepts : List Fields) → List ℕ
+either-order nodes =
+    plan 0 nodes (2 ^ 30 + 2 ^ 29)
+    (one (1 ∷ []) ∷ one (2 ∷ []) ∷ sequence ∷ one (2 ∷ []) ∷ one (1 ∷ []) ∷ sequence ∷ choice ∷ [])
+
+-- the alphabet of P, and the pattern "1 then 1"
+abbrev one-one : (nodes : ℕ) → (jobs steps channels calls accepts : List Fields) → List ℕ
+one-one nodes = plan 0 nodes (2 ^ 30) (one (1 ∷ []) ∷ one (1 ∷ []) ∷ sequence ∷ [])
 
 -- ---- cases
 
@@ -84,8 +97,8 @@ judged =
     verified P (7 ∷ 8 ∷ 9 ∷ []) (counts 3 0 0 2 33 2) (1 ∷ 2 ∷ 9 ∷ [])
     ∷ verified P (7 ∷ 8 ∷ []) (counts 3 0 0 2 33 2) (1 ∷ 2 ∷ [])  -- a row of two places
     ∷ inconclusive (set P 5 0x02) (7 ∷ 8 ∷ 9 ∷ []) (counts 3 0 0 2 33 2) (1 ∷ 2 ∷ 9 ∷ [])  -- of kind none
-    -- two jobs: {0,2,4} {1,2,4} {2,3,4} {0,1,2} {1,2,3} {1,2,4}
-    ∷ inconclusive two-jobs (1 ∷ 2 ∷ 3 ∷ 4 ∷ 5 ∷ 6 ∷ 7 ∷ 8 ∷ []) (counts 5 1 6 18 60 20) (21 ∷ 22 ∷ 28 ∷ 7 ∷ 14 ∷ 22 ∷ 7 ∷ 8 ∷ [])
+    -- two jobs: {0} {1} {3,4} {0,1} {3} {4}
+    ∷ verified two-jobs (1 ∷ 2 ∷ 3 ∷ 4 ∷ 5 ∷ 6 ∷ 7 ∷ 8 ∷ []) (counts 5 1 6 8 27 16) (1 ∷ 2 ∷ 24 ∷ 3 ∷ 8 ∷ 16 ∷ 7 ∷ 8 ∷ [])
     -- one node, entry and exit
     ∷ inconclusive (of-every 1 (job 1 0 0 ∷ []) [] [] [] []) (7 ∷ 8 ∷ []) (counts 3 0 0 1 33 1) (1 ∷ 8 ∷ [])
     ∷ verified (of-none 1 (job 1 0 0 ∷ []) [] [] [] []) (7 ∷ 8 ∷ []) (counts 3 0 0 1 33 1) (1 ∷ 8 ∷ [])
@@ -127,18 +140,35 @@ mistaken =
     (1 ∷ 2 ∷ 3 ∷ 4 ∷ 5 ∷ 6 ∷ []) (counts 3 1 2 6 40 2) (1 ∷ 2 ∷ 2 ∷ 3 ∷ 2 ∷ 6 ∷ [])
     -- dropping the empty set of positions, state 2: the exit would hold nothing
     ∷ inconclusive (of-every 3 (job 3 0 2 ∷ []) (step 0 1 1 ∷ step 1 2 1 ∷ []) [] [] []) (7 ∷ 8 ∷ 9 ∷ []) (counts 3 0 0 3 33 4) (1 ∷ 2 ∷ 4 ∷ [])
-    -- forgetting the third job at a meeting: its exit would hold nothing
-    ∷ inconclusive (of-none 6 (job 2 0 1 ∷ job 2 2 3 ∷ job 2 4 5 ∷ []) [] (channel 1 ∷ []) (link 0 1 0 ∷ []) (link 2 3 0 ∷ []))
-    (1 ∷ 2 ∷ 3 ∷ 4 ∷ 5 ∷ 6 ∷ []) (counts 3 1 2 7 39 2) (1 ∷ 2 ∷ 1 ∷ 2 ∷ 3 ∷ 2 ∷ [])
+    -- forgetting the third job at a meeting: its one node would hold state 0 alone
+    ∷ inconclusive (of-none 5 (job 2 0 1 ∷ job 2 2 3 ∷ job 1 4 4 ∷ []) [] (channel 1 ∷ []) (link 0 1 0 ∷ []) (link 2 3 0 ∷ []))
+    (1 ∷ 2 ∷ 3 ∷ 4 ∷ 5 ∷ 6 ∷ []) (counts 3 1 1 6 40 2) (1 ∷ 2 ∷ 1 ∷ 2 ∷ 3 ∷ 6 ∷ [])
     -- sending unwatched events to the dead state: the exit would hold state 2
     ∷ verified (of-every 3 (job 3 0 2 ∷ []) (step 0 1 1 ∷ step 1 2 2 ∷ []) [] [] []) (7 ∷ 8 ∷ 9 ∷ []) (counts 3 0 0 3 33 2) (1 ∷ 2 ∷ 2 ∷ [])
     -- judging by the union of the exit sets, {1} and {0,1}
     ∷ verified (of-every 3 (job 2 0 1 ∷ job 1 2 2 ∷ []) (step 0 1 1 ∷ []) [] [] []) (7 ∷ 8 ∷ 9 ∷ []) (counts 3 0 1 4 44 2) (1 ∷ 2 ∷ 3 ∷ [])
     ∷ []
 
+-- plans whose ordering edges find the state held, or not; their sets by both rules stand in the cases of crate flow
+abbrev ordered : List Case
+ordered =
+    -- the third job has no step, and its exit holds nothing and gets nothing
+    verified (of-none 6 (job 2 0 1 ∷ job 2 2 3 ∷ job 2 4 5 ∷ []) [] (channel 1 ∷ []) (link 0 1 0 ∷ []) (link 2 3 0 ∷ []))
+    (1 ∷ 2 ∷ 3 ∷ 4 ∷ 5 ∷ 6 ∷ []) (counts 3 1 2 6 33 0) (1 ∷ 2 ∷ 1 ∷ 2 ∷ 3 ∷ 0 ∷ [])
+    -- its entry holds 0 and gets 1, its exit does not; a run by 2 and then 1 is wrong
+    ∷ inconclusive (one-two 6 (job 2 0 1 ∷ job 2 2 3 ∷ job 2 4 5 ∷ []) (step 4 5 2 ∷ []) (channel 1 ∷ []) (link 0 1 0 ∷ []) (link 2 3 0 ∷ []))
+    (1 ∷ 2 ∷ 3 ∷ 4 ∷ 5 ∷ 6 ∷ []) (counts 4 1 6 14 58 12) (5 ∷ 14 ∷ 5 ∷ 14 ∷ 3 ∷ 12 ∷ [])
+    -- two jobs side by side by events 1 and 2; inconclusive by document 01's rule, with the final set {1,2,3,4,5}
+    ∷ verified (either-order 4 (job 2 0 1 ∷ job 2 2 3 ∷ []) (step 0 1 1 ∷ step 2 3 2 ∷ []) [] [] [])
+    (1 ∷ 2 ∷ 3 ∷ 4 ∷ 5 ∷ []) (counts 6 0 4 10 42 48) (5 ∷ 50 ∷ 3 ∷ 52 ∷ 5 ∷ [])
+    -- both by event 1; no complete run is wrong, and the sets cannot tell by either rule
+    ∷ inconclusive (one-one 4 (job 2 0 1 ∷ job 2 2 3 ∷ []) (step 0 1 1 ∷ step 2 3 1 ∷ []) [] [] [])
+    (1 ∷ 2 ∷ 3 ∷ 4 ∷ 5 ∷ []) (counts 4 0 4 14 88 14) (15 ∷ 14 ∷ 15 ∷ 14 ∷ 5 ∷ [])
+    ∷ []
+
 -- the table
 abbrev pub cases : List Case
-cases = judged ++ turnedDown ++ mistaken
+cases = judged ++ turnedDown ++ mistaken ++ ordered
 
 -- what two rounds of the rules give, which are enough for all of them
 abbrev found : Case → Option Outcome

@@ -83,7 +83,7 @@ module _ (q : Pattern) (b : List ℕ) (places : ℕ) (passed : first (judgeable 
   few-states : statesOf (expressionBy q b) (planOf b .alphabet) ≡ some (numbered (planOf b) (expressionBy q b))
   few-states = within-limit (statesOf (expressionBy q b) (planOf b .alphabet)) (past-17 .0)
 
-  legal-plan : Legal (planOf b)
+  pub legal-plan : Legal (planOf b)
   legal-plan = legal b (before-items b (past-15 .0))
 
 -- ---- what the reading answers is what the promise asks for

@@ -9,4 +9,5 @@ pub mod Settled
 pub mod Unique
 pub mod Numbers
 pub mod Evaluate
+pub mod Narrower
 pub mod Cases

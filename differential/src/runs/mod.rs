@@ -1,18 +1,21 @@
-//! Verdicts on small plans, under their own patterns and under texts, held against all their runs and against the pattern's language
-//! itself.
+//! Verdicts on small plans, under their own patterns and under texts, held against all their runs, against the pattern's language
+//! itself, and against the smallest sets by the flow rules' own words.
 
 mod exploration;
 mod expression;
 #[cfg(test)]
 mod expression_tests;
+pub(crate) mod least;
+mod moves;
 mod plans;
 
 use crate::draft::as_read;
 use crate::hex::hex;
 use crate::random::Random;
 use exploration::{explore, Explored};
+use least::{is_verified, least, Asked, HELD, HELD_BUT_BY_MEETING, HELD_BUT_BY_ORDERING};
 use plans::Small;
-use reference::{Item, Kind, Plan};
+use reference::{Automaton, Item, Kind, Plan};
 use std::fmt;
 use traceflow::Answer;
 
@@ -36,6 +39,22 @@ struct Tally {
     meeting: [usize; 2],
     /// Inconclusive plans that have a wrong complete run: for information.
     wrong: [usize; 2],
+    premise: Premise,
+}
+
+/// What it is worth that ordering edges ask for the state before the move.
+#[derive(Default)]
+struct Premise {
+    /// Plans with larger sets if they asked for nothing.
+    smaller: usize,
+    /// Verified plans that would be inconclusive then.
+    gained: usize,
+    /// Inconclusive plans that would be so then too.
+    no_gain: usize,
+    /// Plans in which some move is handed on only because another ordering edge has brought the state before it.
+    after_ordering: usize,
+    /// Plans in which some move is handed on only because a meeting has.
+    after_meeting: usize,
 }
 
 /// A plan and the pattern by which it is judged: its own, or that of a text.
@@ -100,14 +119,70 @@ fn check(
         Answer::Verified(_) => true,
         Answer::Inconclusive(_) => false,
     };
-    match explore(&plan, &task.pattern, &row, CONFIGURATIONS)? {
+    let automaton = Automaton::of_items(&task.pattern, plan.alphabet)
+        .map_err(|n| format!("no automaton, refused {n}"))?;
+    let explored = explore(&plan, &task.pattern, &automaton, &row, CONFIGURATIONS)?;
+    check_row(&row, &least(&plan, &automaton, HELD))?;
+    match explored {
         None => tally.passed_over += 1,
         Some(explored) if verified && explored.wrong > 0 => {
             return Err("verified, but a complete run is wrong for its kind".to_string());
         }
-        Some(explored) => tally.add(&plan, verified, &explored),
+        Some(explored) => {
+            tally.add(&plan, verified, &explored);
+            tally.premise.add(&plan, &automaton, verified, &row);
+        }
     }
     Ok(())
+}
+
+/// The row is the smallest sets, place by place.
+fn check_row(row: &[u64], smallest: &[u64]) -> Result<(), String> {
+    for (node, (set, due)) in row.iter().zip(smallest).enumerate() {
+        if set & !due != 0 {
+            return Err(format!(
+                "node {node} has set {set:#x}, more than the rules give: {due:#x}"
+            ));
+        }
+        if set != due {
+            return Err(format!(
+                "node {node} has set {set:#x}, less than the rules give: {due:#x}"
+            ));
+        }
+    }
+    Ok(())
+}
+
+impl Premise {
+    /// Adds a plan, its verdict and its sets.
+    fn add(&mut self, plan: &Plan, automaton: &Automaton, verified: bool, row: &[u64]) {
+        let before = least(plan, automaton, Asked::Nothing);
+        let was_verified = is_verified(plan, automaton, &before);
+        self.smaller += usize::from(before != row);
+        self.gained += usize::from(verified && !was_verified);
+        self.no_gain += usize::from(!verified && !was_verified);
+        let needs = |asked| least(plan, automaton, asked) != row;
+        self.after_ordering += usize::from(needs(HELD_BUT_BY_ORDERING));
+        self.after_meeting += usize::from(needs(HELD_BUT_BY_MEETING));
+    }
+
+    fn seen(&self) -> [(&'static str, usize, usize); 5] {
+        [
+            ("plans with smaller sets by order 3", self.smaller, 4_000),
+            ("plans verified by order 3 alone", self.gained, 300),
+            ("plans inconclusive in spite of it", self.no_gain, 6_000),
+            (
+                "plans with moves handed on after an ordering edge",
+                self.after_ordering,
+                2_500,
+            ),
+            (
+                "plans with moves handed on after a meeting",
+                self.after_meeting,
+                400,
+            ),
+        ]
+    }
 }
 
 impl Tally {
@@ -146,7 +221,7 @@ impl Tally {
                 2_500,
             ),
         ];
-        for (which, count, needed) in seen {
+        for (which, count, needed) in seen.into_iter().chain(self.premise.seen()) {
             if count < needed {
                 return Err(format!(
                     "{what}: {which}: only {count}, {needed} are needed"
@@ -163,7 +238,7 @@ impl fmt::Display for Tally {
             out,
             "{} plans, {} configurations, {} meetings taken; by kind [every, none]: verified {:?}, \
              with a complete run {:?}, of these with meetings {:?}; inconclusive {:?}, with a wrong run {:?}; \
-             {} passed over",
+             {} passed over; ordering edges: {}",
             self.plans,
             self.configurations,
             self.meetings,
@@ -172,7 +247,19 @@ impl fmt::Display for Tally {
             self.meeting,
             self.inconclusive,
             self.wrong,
-            self.passed_over
+            self.passed_over,
+            self.premise
+        )
+    }
+}
+
+impl fmt::Display for Premise {
+    fn fmt(&self, out: &mut fmt::Formatter) -> fmt::Result {
+        write!(
+            out,
+            "{} plans with smaller sets by order 3, {} verified by it alone, {} inconclusive in spite of it, \
+             {} with moves handed on after an ordering edge, {} after a meeting",
+            self.smaller, self.gained, self.no_gain, self.after_ordering, self.after_meeting
         )
     }
 }
@@ -207,12 +294,39 @@ mod tests {
         }
     }
 
-    /// The sets, one of them short of its greatest state.
-    fn forgetful(answer: Answer, row: &mut [u64]) -> Answer {
-        if let Some(set) = row.iter_mut().rfind(|set| set.count_ones() > 1) {
-            *set ^= 1 << set.ilog2();
+    /// The sets without the state that every run begins in.
+    fn late(answer: Answer, row: &mut [u64]) -> Answer {
+        row.iter_mut().for_each(|set| *set &= !1);
+        answer
+    }
+
+    /// The sets, one of them with a state that it should not hold.
+    fn generous(answer: Answer, row: &mut [u64]) -> Answer {
+        if let Some(set) = row.last_mut() {
+            *set |= 1 << set.trailing_ones();
         }
         answer
+    }
+
+    /// The smallest sets by the rules' words, with ordering edges that ask for this, and the verdict that they give; the counts are those
+    /// of the proved judge.
+    fn by_rules(plan: &[u8], text: Option<&[u8]>, row: &mut [u64], asked: Asked) -> Answer {
+        let counts = match traceflow::judge_by(plan, text, row) {
+            Answer::Verified(counts) | Answer::Inconclusive(counts) => counts,
+            refused => return refused,
+        };
+        let plan = Plan::read(plan).unwrap();
+        let items = match text {
+            None => plan.items.clone(),
+            Some(text) => reference::read_text(text, plan.alphabet).unwrap(),
+        };
+        let automaton = Automaton::of_items(&items, plan.alphabet).unwrap();
+        let sets = least(&plan, &automaton, asked);
+        row.copy_from_slice(&sets);
+        match is_verified(&plan, &automaton, &sets) {
+            true => Answer::Verified(counts),
+            false => Answer::Inconclusive(counts),
+        }
     }
 
     fn timid(answer: Answer, _: &mut [u64]) -> Answer {
@@ -231,9 +345,52 @@ mod tests {
     }
 
     #[test]
-    fn a_set_short_of_a_state_is_found_out() {
+    fn a_set_short_of_a_state_that_runs_reach_is_found_out() {
         for by_text in [false, true] {
-            assert!(found(by_text, forgetful).contains("does not hold"));
+            assert!(found(by_text, late).contains("does not hold"));
+        }
+    }
+
+    #[test]
+    fn a_set_short_of_a_state_that_no_run_reaches_is_found_out() {
+        let found = check_row(&[0b111, 0b011], &[0b111, 0b111]).unwrap_err();
+        assert!(found.contains("node 1") && found.contains("less than the rules give"));
+    }
+
+    #[test]
+    fn a_set_with_a_state_too_many_is_found_out() {
+        for by_text in [false, true] {
+            assert!(found(by_text, generous).contains("more than the rules give"));
+        }
+    }
+
+    /// What is said of a judge by the rules' words whose ordering edges ask for this by a text, or by the plan's own pattern.
+    fn found_asking(asked: Asked, by_text: bool) -> String {
+        let judge = |plan: &[u8], text: Option<&[u8]>, row: &mut [u64]| {
+            let asked = match text.is_some() == by_text {
+                true => asked,
+                false => HELD,
+            };
+            by_rules(plan, text, row, asked)
+        };
+        check_with(7, judge).unwrap_err()
+    }
+
+    #[test]
+    fn ordering_edges_that_ask_for_nothing_are_found_out() {
+        for by_text in [false, true] {
+            let found = found_asking(Asked::Nothing, by_text);
+            assert!(found.contains("more than the rules give"));
+        }
+    }
+
+    #[test]
+    fn ordering_edges_that_ask_for_too_much_are_found_out() {
+        for asked in [HELD_BUT_BY_ORDERING, HELD_BUT_BY_MEETING] {
+            for by_text in [false, true] {
+                let found = found_asking(asked, by_text);
+                assert!(found.contains("does not hold") || found.contains("less than"));
+            }
         }
     }
 

@@ -1,5 +1,8 @@
 //! Plans written for the tests.
 
+// No test file uses all of this.
+#![allow(dead_code)]
+
 use reference::{judge, Answer, Counts, Item};
 
 /// Plan P as printed.
@@ -59,7 +62,7 @@ pub fn events(events: &[u64]) -> Item {
 
 /// A plan to be written. Jobs are size, entry, exit; steps are from, to,
 /// event; calls and accepts are from, to, channel.
-#[derive(Clone)]
+#[derive(Clone, Debug)]
 pub struct Draft {
     pub kind: u64,
     pub alphabet: Vec<u64>,
