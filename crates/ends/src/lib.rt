@@ -1,18 +1,16 @@
 // Refusals 6 to 9, which ask for the job of a node: entries and exits, and the ends of arcs.
 use plan::Outcome;
-use sections::Arcs;
-use sections::Decoded;
 use sections::Jobs;
 ghost use mathlib.Core.Path.{_≡_};
 ghost use Prim.Native.Nat.{_≤_};
-ghost use Rattle.rows.specs.Rows.{padded, place};
-ghost use Rattle.sections.specs.Tables.{jobsIn, arcsIn, planIn};
+ghost use Rattle.rows.specs.Rows.{place};
+ghost use Rattle.sections.specs.Plan.{Plan};
+ghost use Rattle.sections.specs.Tables.{jobsIn, arcsIn};
 ghost use Rattle.plan.specs.Checks.{first, anyNumbered};
-ghost use Rattle.plan.specs.Nodes.{owners};
-ghost use Rattle.plan.specs.Bounds.{OwnersBelow, Tabled};
+ghost use Rattle.plan.specs.Bounds.{OwnersBelow};
 ghost use Rattle.plan.specs.Refusals.{stray, ends};
 ghost use Rattle.plan.specs.Outcomes.{outcomeOf};
-ghost use Rattle.ends.specs.Faults.{faultsOf};
+ghost use Rattle.ends.specs.Faults.{lent, faultsOf, Tested, Lent};
 
 // What the tests of arcs go by, beside the job of each node.
 struct Bounds {
@@ -49,11 +47,17 @@ struct Faults {
 }
 
 // One pass over a section.
-fn find_faults(g: Bounds, owner: &[u8; 256], arcs: Arcs) -> Faults
-    requires { ⌜ (arcs .count ≤ 256) × OwnersBelow 16 (now owner) ⌝ }
-    ensures { λ r. ⌜ r ≡ faultsOf g (now (owner .entry)) (arcsIn arcs) ⌝ }
+fn find_faults<'a>(
+    g: Bounds,
+    owner: &'a [u8; 256],
+    count: usize,
+    froms: &'a [u8; 256],
+    tos: &'a [u8; 256],
+    labels: &'a [u8; 256],
+) -> Faults
+    requires { ⌜ (count ≤ 256) × OwnersBelow 16 (now owner) ⌝ }
+    ensures { λ r. ⌜ r ≡ faultsOf g (now (owner .entry)) (arcsIn (lent count (now (froms .entry)) (now (tos .entry)) (now (labels .entry)))) ⌝ }
 {
-    let count = arcs.count;
     let nodes = g.nodes;
     let channels = g.channels;
     let mut apart = false;
@@ -61,9 +65,9 @@ fn find_faults(g: Bounds, owner: &[u8; 256], arcs: Arcs) -> Faults
     let mut unknown = false;
     let mut i: usize = 0;
     while i < count {
-        let from = sections::byte(arcs.from[i]);
-        let to = sections::byte(arcs.to[i]);
-        let label = sections::byte(arcs.label[i]);
+        let from = sections::byte(froms[i]);
+        let to = sections::byte(tos[i]);
+        let label = sections::byte(labels[i]);
         let job = sections::byte(owner[from]);
         let other = sections::byte(owner[to]);
         let exit = sections::byte(g.exit[job]);
@@ -79,28 +83,14 @@ fn find_faults(g: Bounds, owner: &[u8; 256], arcs: Arcs) -> Faults
     }
 }
 
-// Refusals 6 to 9.
-pub fn bounded(d: Decoded, owner: &[u8; 256]) -> Outcome
-    requires { ⌜ Tabled d × (now owner ≡ padded 256 (owners (planIn d .jobs))) ⌝ }
-    ensures { λ r. ⌜ r ≡ outcomeOf (first ends (planIn d)) ⌝ }
+// The first of refusals 6 to 9, by the faults of the steps, of the calls and of the accepts.
+fn first_of(nodes: usize, owner: &[u8; 256], jobs: Jobs, s: Faults, c: Faults, a: Faults) -> Outcome
+    requires { ⌜ jobs .count ≤ 16 ⌝ }
+    ensures { λ r. ⌜ ((p : Plan) → Tested p nodes (now (owner .entry)) jobs s c a → r ≡ outcomeOf (first ends p)) ⌝ }
 {
-    let jobs = d.jobs;
-    if any_stray(d.nodes, owner, jobs) {
+    if any_stray(nodes, owner, jobs) {
         return Outcome::Refused(6);
     }
-    let exit = jobs.exit;
-    let channels = d.channels;
-    let g = Bounds {
-        nodes: d.nodes,
-        exit: exit,
-        channels: channels.count,
-    };
-    let steps = d.steps;
-    let calls = d.calls;
-    let accepts = d.accepts;
-    let s = find_faults(g, owner, steps);
-    let c = find_faults(g, owner, calls);
-    let a = find_faults(g, owner, accepts);
     if s.apart | (c.apart | a.apart) {
         return Outcome::Refused(7);
     }
@@ -111,4 +101,38 @@ pub fn bounded(d: Decoded, owner: &[u8; 256]) -> Outcome
         return Outcome::Refused(9);
     }
     Outcome::Accepted
+}
+
+// Refusals 6 to 9, from what is lent of a plan's tables and the job of each node.
+pub fn bounded<'a>(
+    nodes: usize,
+    owner: &'a [u8; 256],
+    jobs: Jobs,
+    channels: usize,
+    steps: usize,
+    froms: &'a [u8; 256],
+    tos: &'a [u8; 256],
+    labels: &'a [u8; 256],
+    calls: usize,
+    callers: &'a [u8; 256],
+    calltos: &'a [u8; 256],
+    called: &'a [u8; 256],
+    accepts: usize,
+    takers: &'a [u8; 256],
+    taketos: &'a [u8; 256],
+    taken: &'a [u8; 256],
+) -> Outcome
+    requires { ⌜ ((p : Plan) × Lent p nodes (now owner) jobs channels (lent steps (now froms) (now tos) (now labels)) (lent calls (now callers) (now calltos) (now called)) (lent accepts (now takers) (now taketos) (now taken))) ⌝ }
+    ensures { λ r. ⌜ ((p : Plan) → Lent p nodes (now (owner .entry)) jobs channels (lent steps (now (froms .entry)) (now (tos .entry)) (now (labels .entry))) (lent calls (now (callers .entry)) (now (calltos .entry)) (now (called .entry))) (lent accepts (now (takers .entry)) (now (taketos .entry)) (now (taken .entry))) → r ≡ outcomeOf (first ends p)) ⌝ }
+{
+    let exit = jobs.exit;
+    let g = Bounds {
+        nodes: nodes,
+        exit: exit,
+        channels: channels,
+    };
+    let s = find_faults(g, owner, steps, froms, tos, labels);
+    let c = find_faults(g, owner, calls, callers, calltos, called);
+    let a = find_faults(g, owner, accepts, takers, taketos, taken);
+    first_of(nodes, owner, jobs, s, c, a)
 }

@@ -29,12 +29,18 @@ module _ (b : List ℕ) where
   unfolding patternReadOf
   answer o e = ap (λ (x : Option ℕ). answered x b) e
 
+  pub order-first : (n : ℕ) → first order b ≡ some n → first readable b ≡ some n
+  order-first n e = readable-parts b ∙ ap (λ (o : Option ℕ). orElse o (badItems b)) e
+
   pub answer-order : (n : ℕ) → first order b ≡ some n → patternReadOf b ≡ refused n
-  answer-order n e = answer (some n) (readable-parts b ∙ ap (λ (o : Option ℕ). orElse o (badItems b)) e)
+  answer-order n e = answer (some n) (order-first n e)
 
   module _ (passed : first order b ≡ none) where
+    pub items-next : (n : ℕ) → badItems b ≡ some n → first readable b ≡ some n
+    items-next n e = readable-parts b ∙ ap (λ (o : Option ℕ). orElse o (badItems b)) passed ∙ e
+
     pub answer-items : (n : ℕ) → badItems b ≡ some n → patternReadOf b ≡ refused n
-    answer-items n e = answer (some n) (readable-parts b ∙ ap (λ (o : Option ℕ). orElse o (badItems b)) passed ∙ e)
+    answer-items n e = answer (some n) (items-next n e)
 
     pub read-none : badItems b ≡ none → first readable b ≡ none
     read-none e = readable-parts b ∙ ap (λ (o : Option ℕ). orElse o (badItems b)) passed ∙ e

@@ -61,7 +61,7 @@ fn few_states(items: Items, alphabet: u32) -> bool
     ensures { λ r. ⌜ r ≡ not (overLimit (statesOf (patternOf (itemsOn items)) alphabet)) ⌝ }
 {
     let p = positions::positions_of(items);
-    let s = automaton::states_of(p, alphabet);
+    let s = automaton::states_of(p.count, &p.after, &p.holding, alphabet);
     s.fits
 }
 

@@ -35,8 +35,8 @@ fn own(owner: &mut [u8; 256], at: usize, size: usize, job: u8)
     }
 }
 
-// The job of each node.
-fn owners_of(jobs: Jobs) -> [u8; 256]
+// The job of each node. Public for the judge.
+pub fn owners_of(jobs: Jobs) -> [u8; 256]
     requires { ⌜ (jobs .count ≤ 16) × (total (sizes (jobsIn jobs)) ≤ 256) ⌝ }
     ensures { λ r. ⌜ r ≡ padded 256 (owners (jobsIn jobs)) ⌝ }
 {
@@ -72,12 +72,28 @@ fn read_sections(plan: &[u8]) -> Reading
 {
     let h = sections::read_head(plan);
     let d = tables::decode(plan, h);
-    let jobs = d.jobs;
-    if plan::sizes_wrong(d.nodes, jobs) {
+    if plan::sizes_wrong(d.nodes, d.jobs) {
         return turned_down(5);
     }
-    let owner = owners_of(jobs);
-    let found = ends::bounded(d, &owner);
+    let owner = owners_of(d.jobs);
+    let found = ends::bounded(
+        d.nodes,
+        &owner,
+        d.jobs,
+        d.channels.count,
+        d.steps.count,
+        &d.steps.from,
+        &d.steps.to,
+        &d.steps.label,
+        d.calls.count,
+        &d.calls.from,
+        &d.calls.to,
+        &d.calls.label,
+        d.accepts.count,
+        &d.accepts.from,
+        &d.accepts.to,
+        &d.accepts.label,
+    );
     match found {
         Outcome::Refused(n) => turned_down(n),
         Outcome::Accepted => Reading {

@@ -14,15 +14,31 @@ pub fn judge_text(plan: &[u8], text: &[u8], row: &mut [u64]) -> Answer
     match found {
         Outcome::Refused(n) => Answer::Refused(n),
         Outcome::Accepted => {
-            let tables = reading.plan;
-            let owner = reading.owner;
-            let typed = text::read_text(text, tables.alphabet);
+            let typed = text::read_text(text, reading.plan.alphabet);
             let typed_found = typed.outcome;
             match typed_found {
                 Outcome::Refused(m) => Answer::Refused(m),
                 Outcome::Accepted => {
                     let items = typed.items;
-                    verifier::settle(tables, owner, items, row)
+                    let tables = reading.plan;
+                    let owner = reading.owner;
+                    let edges = edges::edges_of(
+                        tables.nodes,
+                        &tables.jobs.size,
+                        &owner,
+                        tables.alphabet,
+                        &tables.channels.event,
+                        tables.steps.count,
+                        &tables.steps.from,
+                        &tables.steps.label,
+                        tables.calls.count,
+                        &tables.calls.from,
+                        &tables.calls.label,
+                        tables.accepts.count,
+                        &tables.accepts.from,
+                        &tables.accepts.label,
+                    );
+                    verifier::settle(tables, owner, edges, items, row)
                 }
             }
         }

@@ -1,6 +1,7 @@
 -- Laws of the judge.
 pub mod Refusals
 pub mod Reader
+pub mod Tables
 pub mod Copies
 pub mod Sound
 pub mod Row

@@ -16,7 +16,7 @@ use Rattle.plan.specs.Legal.{Legal}
 use Rattle.regex.specs.Expression.{Expression}
 use Rattle.graph.specs.Flow.{Flow}
 use Rattle.graph.proofs.Fewer.{flow-narrower}
-use Rattle.arcs.specs.Table.{byTable}
+use Rattle.growth.specs.Table.{byTable}
 use Rattle.verdict.specs.declared.Counts.{Counts}
 use Rattle.verdict.specs.declared.Answer.{Answer}
 use Rattle.verdict.specs.declared.Answer.the-variants.{Refused, Verified, Inconclusive}

@@ -65,6 +65,10 @@ pub turned-down : (refused : Option ℕ) (p : Plan) (r : Expression) (before aft
     → Answered refused p r before (Refused n) after
 turned-down refused p r before after n e same = record { refusal = sym e; unchanged = λ m h. same; judged = λ v c h. absurd (Option·none-ne-some _ h) }
 
+-- one of 1 to 15
+pub judged-early : (q : Pattern) (b before : List ℕ) (n : ℕ) → first readable b ≡ some n → Judged q b before (Refused n) before
+judged-early q b before n e = turned-down _ (planOf b) (expressionBy q b) before before n (refused-early q (length before) b n e) refl
+
 -- ---- what is left of the answer, where none of 1 to 15 applies, and none of 18 to 20
 
 pub judged-late : (q : Pattern) (b before : List ℕ) → first readable b ≡ none → textRefusal q b ≡ none → (r : Expression) → r ≡ expressionBy q b

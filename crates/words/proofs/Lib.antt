@@ -1,2 +1,3 @@
--- Laws of arcs as words.
+-- Laws of arcs as words, and of a plan that is lent.
 mod Words
+pub mod Places

@@ -10,18 +10,25 @@ use Rattle.sections.specs.Tables.{arcIn}
 use Rattle.ends.specs.declared.Faults.{Faults}
 use Rattle.plan.specs.Checks.{any}
 use Rattle.plan.specs.Refusals.{apart as apart-test, leaving as leaving-test, unknown as unknown-test}
-use Rattle.ends.specs.Faults.{faultsOf}
+use Rattle.ends.specs.Faults.{lent, faultsOf}
 use Rattle.plan.proofs.Tests.{any-row-none, any-turn}
 use Rattle.ends.proofs.Turns.{apart-read, leaving-read, unknown-read}
 use Rattle.ends.proofs.find_faults.Statement.{statement}
 use Rattle.ends.proofs.find_faults.Tie as tie
 
 abbrev Inv-loop : tie.InvT-loop
-Inv-loop owner g arcs count nodes channels apart₀ leaving₀ unknown₀ i₀ apart leaving unknown i =
-    (i ≤ count) × (apart ≡ any (apart-test (g .nodes) (place owner)) (row i (arcIn arcs))) × (leaving ≡ any (leaving-test (place owner) (place (g .exit))) (row i (arcIn arcs))) × (unknown ≡ any (unknown-test (g .channels)) (row i (arcIn arcs)))
+Inv-loop owner count froms tos labels g nodes channels apart₀ leaving₀ unknown₀ i₀ apart leaving unknown i =
+    (i ≤ count)
+    × (apart ≡ any (apart-test (g .nodes) (place owner)) (row i (arcIn (lent count froms tos labels))))
+    × (leaving ≡ any (leaving-test (place owner) (place (g .exit))) (row i (arcIn (lent count froms tos labels))))
+    × (unknown ≡ any (unknown-test (g .channels)) (row i (arcIn (lent count froms tos labels))))
 
 abbrev μ-loop : tie.MeasureT-loop
-μ-loop owner g arcs count nodes channels apart₀ leaving₀ unknown₀ i₀ apart leaving unknown i = count - i
+μ-loop owner count froms tos labels g nodes channels apart₀ leaving₀ unknown₀ i₀ apart leaving unknown i = count - i
+
+-- the section of the arguments
+abbrev section-of : tie.Start Inv-loop μ-loop → Arcs
+section-of s = lent (s .args .count) (s .args .froms .now) (s .args .tos .now) (s .args .labels .now)
 
 -- no arc has been passed yet
 none : (test : Arc → Bool) (arcs : Arcs) → false ≡ any test (row 0 (arcIn arcs))
@@ -32,9 +39,9 @@ loop-holds c =
     let g = c .args .t1 in
     let owner = c .args .owner .now in (
       omega arith,
-      none (apart-test (g .nodes) (place owner)) (c .args .t3),
-      none (leaving-test (place owner) (place (g .exit))) (c .args .t3),
-      none (unknown-test (g .channels)) (c .args .t3),
+      none (apart-test (g .nodes) (place owner)) (section-of c),
+      none (leaving-test (place owner) (place (g .exit))) (section-of c),
+      none (unknown-test (g .channels)) (section-of c),
     )
 
 element-copy-out-byte : tie.Need-element-copy-out-byte Inv-loop μ-loop
@@ -83,7 +90,7 @@ loop-again : tie.Need-loop-again Inv-loop μ-loop
 loop-again c =
     let g = c .before .before .before .before .before .before .before .before .before .before .before .before .before .before .args .t1 in
     let owner = c .before .before .before .before .before .before .before .before .before .before .before .before .before .before .args .owner .now in
-    let arcs = c .before .before .before .before .before .before .before .before .before .before .before .before .before .before .args .t3 in
+    let arcs = section-of (c .before .before .before .before .before .before .before .before .before .before .before .before .before .before) in
     let loop = c .before .before .before .before .before .before .before .before .before .before .before .before .before .loop in
     let from = c .before .before .before .before .before .before .before .before .before .before .byte .ensures .0 in
     let job = c .before .before .before .before .byte4 .ensures .0 in (
@@ -100,10 +107,10 @@ returns c =
     let g = c .before .before .args .t1 in
     let owner = c .before .before .args .owner .now in
     let inv = c .before .loop .inv in
-    let e : c .before .loop .i ≡ c .before .before .args .t3 .count = omega arith in
-    let found : _≡_ {A = Faults} (record { apart = c .before .loop .apart; leaving = c .before .loop .leaving; unknown = c .before .loop .unknown }) (faultsOf g owner (row (c .before .loop .i) (arcIn (c .before .before .args .t3)))) =
+    let e : c .before .loop .i ≡ c .before .before .args .count = omega arith in
+    let found : _≡_ {A = Faults} (record { apart = c .before .loop .apart; leaving = c .before .loop .leaving; unknown = c .before .loop .unknown }) (faultsOf g owner (row (c .before .loop .i) (arcIn (section-of (c .before .before))))) =
     λ k. record { apart = inv .1 k; leaving = inv .2 k; unknown = inv .3 k } in
-    found ∙ ap (λ (n : ℕ). faultsOf g owner (row n (arcIn (c .before .before .args .t3)))) e
+    found ∙ ap (λ (n : ℕ). faultsOf g owner (row n (arcIn (section-of (c .before .before))))) e
 
 pub find-faults-spec : {M : Type 1} → statement M
 find-faults-spec =

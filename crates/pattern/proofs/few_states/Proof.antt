@@ -27,12 +27,12 @@ positions-of-requires : tie.Need-positions-of-requires
 positions-of-requires c κs = search needs
 
 states-of-requires : tie.Need-states-of-requires
-states-of-requires c κs = (_, of c)
+states-of-requires c κs = (_, (_, of (c .before .before .before)))
 
 returns : tie.Need-returns
 returns c =
-    let r = patternOf (itemsOn (c .before .before .args .items)) in
-    ap (λ (s : States). s .fits) (c .states-of .ensures r (of (c .before))) ∙ fits-is (statesOf r (c .before .before .args .alphabet))
+    let r = patternOf (itemsOn (c .before .before .before .before .before .args .items)) in
+    ap (λ (s : States). s .fits) (c .states-of .ensures r _ (of (c .before .before .before .before))) ∙ fits-is (statesOf r (c .before .before .before .before .before .args .alphabet))
 
 pub few-states-spec : {M : Type 1} → statement M
 few-states-spec = tie.close (tie.spec positions-of-requires states-of-requires returns)

@@ -1,5 +1,5 @@
 -- `judge_text` answers a refusal of the plan, one of the text, or what is left. Assumes nothing.
-use mathlib.Core.Path.{_≡_, refl, sym, ap, subst}
+use mathlib.Core.Path.{_≡_, refl, sym, ap, subst, _∙_}
 use mathlib.Core.List.{List}
 use mathlib.Core.Option.{none}
 use Prim.Native.Nat.{ℕ}
@@ -8,6 +8,7 @@ use Rattle.plan.specs.Checks.{first}
 use Rattle.plan.specs.Legal.{Keeps}
 use Rattle.items.specs.Postfix.{Postfix}
 use Rattle.grammar.proofs.Every.{every-text}
+use Rattle.edges.proofs.Kept.{fits, counts-kept}
 use Rattle.pattern.specs.declared.PatternRead.{PatternRead}
 use Rattle.pattern.specs.Refusals.{readable}
 use Rattle.pattern.proofs.Part.{plan-postfix}
@@ -46,13 +47,13 @@ alphabet c =
 
 -- the bytes of the text, and what its reader said of them
 abbrev plan-bytes : tie.After-read-text → List ℕ
-plan-bytes c = bytes (c .before .before .before)
+plan-bytes c = bytes (c .before)
 
 abbrev text-bytes : tie.After-read-text → List ℕ
-text-bytes c = c .before .before .before .before .before .before .before .before .before .before .args .text .now
+text-bytes c = c .before .before .before .before .before .before .before .before .args .text .now
 
 told : (c : tie.After-read-text) → Typed (text-bytes c) (planOf (plan-bytes c) .alphabet) (c .read-text .result)
-told c = subst (λ (a : ℕ). Typed (text-bytes c) a (c .read-text .result)) (alphabet (c .before .before .before)) (c .read-text .ensures)
+told c = subst (λ (a : ℕ). Typed (text-bytes c) a (c .read-text .result)) (alphabet (c .before)) (c .read-text .ensures)
 
 read-pattern-requires : tie.Need-read-pattern-requires
 read-pattern-requires c κs = search needs
@@ -72,12 +73,17 @@ enum-known-typed-found c = search needs
 enum-told-2 : tie.Need-enum-told-2
 enum-told-2 c = search needs
 
+edges-of-requires : tie.Need-edges-of-requires
+edges-of-requires c κs =
+    let f = fits (kept (c .before .before .before .before .before .before .before .before .before .before .before .before .before .before .before .before)) in
+    record { ample = f .ample; steps = f .steps; calls = f .calls; accepts = f .accepts; step-labels = f .step-labels; call-labels = f .call-labels; events = f .events }
+
 -- both tables of items are postfix: which of them is judged is left to the promise
 settle-requires : tie.Need-settle-requires
 settle-requires c κs =
-    let t = c .before .before .before .before in
-    let e = t .before .before .before in
-    let typed-items = text-postfix (text-bytes t) _ (t .read-text .result) (told t) (c .before .before .enum-told2 .given .1) in
+    let t = c .before .before .before .before .before .before .before .before .before .before .before .before .before .before .before .before .before in
+    let e = t .before in
+    let typed-items = text-postfix (text-bytes t) _ (t .read-text .result) (told t) (c .before .before .before .before .before .before .before .before .before .before .before .before .before .before .before .enum-told2 .given .1) in
     let own-items = items-postfix e in
     ((planOf (bytes e), kept e), search (typed-items, own-items))
 
@@ -106,7 +112,7 @@ returns-2 c =
     record {
       tree = told t .tree;
       reading = told t .reading;
-      judged = turned-down _ (planOf b) (expressionBy q b) _ _ (refusal .0 .0) (refused-text q _ b (passed (t .before .before .before)) (refusal .0 .0) late) refl;
+      judged = turned-down _ (planOf b) (expressionBy q b) _ _ (refusal .0 .0) (refused-text q _ b (passed (t .before)) (refusal .0 .0) late) refl;
     }
 
 same-length : tie.Need-same-length
@@ -114,17 +120,18 @@ same-length c = search needs
 
 returns-3 : tie.Need-returns-3
 returns-3 c =
-    let t = c .before .before .before .before .before .before .before in
-    let e = t .before .before .before in
+    let settled = c .before .before in
+    let t = settled .before .before .before .before .before .before .before .before .before .before .before .before .before .before .before .before .before .before in
+    let e = t .before in
     let b = plan-bytes t in
     let w = text-bytes t in
-    let fine = c .before .before .before .before .before .enum-told2 .given .1 in
+    let fine = settled .before .before .before .before .before .before .before .before .before .before .before .before .before .before .before .before .enum-told2 .given .1 in
     let free = passed-text w _ (t .read-text .result) (told t) fine in
     let pattern = text-pattern w _ (t .read-text .result) (told t) fine in
     record {
       tree = told t .tree;
       reading = told t .reading;
-      judged = judged-late (typed w (told t .tree)) b _ (passed e) free _ pattern _ _ (c .before .before .settle .ensures (planOf b) (kept e));
+      judged = judged-late (typed w (told t .tree)) b _ (passed e) free _ pattern _ _ (settled .settle .ensures (planOf b) (kept e) (settled .before .before .edges-of .ensures ∙ counts-kept (kept e)));
     }
 
 pub judge-text-spec : {M : Type 1} → statement M
@@ -137,6 +144,7 @@ judge-text-spec =
     read-text-requires
     enum-known-typed-found
     enum-told-2
+    edges-of-requires
     settle-requires
     returns
     returns-2

@@ -1,0 +1,3 @@
+-- Laws of sets that grow.
+pub mod Sets
+pub mod Grew
