@@ -7,18 +7,18 @@ use native.Mathlib.Omega.{arith}
 use lib.ListN.{length}
 use Rattle.sections.specs.declared.Decoded.{Decoded}
 use Rattle.sections.specs.declared.Jobs.{Jobs}
-use Rattle.sections.specs.declared.Arcs.{Arcs}
 use Rattle.sections.specs.Plan.{Arc, Plan}
 use Rattle.rows.specs.Rows.{padded, place}
-use Rattle.sections.specs.Tables.{exits, jobsIn, arcsIn, arcTable, decodedOf}
-use Rattle.sections.proofs.Kept.{arcs-kept, jobs-kept}
+use Rattle.sections.specs.Tables.{exits, jobsIn}
+use Rattle.sections.proofs.Kept.{jobs-kept}
 use Rattle.rows.proofs.Rows.{padded-places}
 use Rattle.plan.specs.Checks.{any, anyNumbered}
 use Rattle.plan.specs.Nodes.{owners, jobOf, exitOf}
 use Rattle.plan.specs.Refusals.{stray, strayEnds, apart, splitEnds, leaving, exitLeft, unknown, noChannel, arcs, links}
-use Rattle.plan.specs.Bounds.{OwnersBelow, Tabled}
+use Rattle.plan.specs.Bounds.{OwnersBelow}
 use Rattle.plan.proofs.Tests.{any-both}
 use Rattle.plan.proofs.Nodes.{owners-below}
+use Rattle.words.specs.Words.{arcsOn}
 use Rattle.ends.specs.declared.Bounds.{Bounds}
 use Rattle.ends.specs.declared.Faults.{Faults}
 use Rattle.ends.specs.Faults.{faultsOf, boundsOf, Tested, Lent}
@@ -81,47 +81,43 @@ module _ {p : Plan} {nodes : ℕ} {owner : List ℕ} {jobs : Jobs} {s c a : Faul
   pub unknown-tested : (c .unknown || a .unknown) ≡ noChannel p
   unknown-tested = unknown-on p owner (t .owners-kept) (boundsOf p) refl s c a (t .steps) (t .calls) (t .accepts)
 
--- from what is lent of the tables of the plan
-module _ {p : Plan} {nodes : ℕ} {owner : List ℕ} {jobs : Jobs} {channels : ℕ} {steps calls accepts : Arcs} (l : Lent p nodes owner jobs channels steps calls accepts) where
+-- from the tables of the plan
+module _ {p : Plan} {d : Decoded} {owner words : List ℕ} (l : Lent p d owner words) where
   abbrev pub bounds : Bounds
-  bounds = record { nodes = nodes; exit = jobs .exit; channels = channels }
+  bounds = record { nodes = d .nodes; exit = d .jobs .exit; channels = d .channels .count }
 
   bounds-kept : bounds ≡ boundsOf p
-  bounds-kept = λ i. record { nodes = l .same-nodes i; exit = l .jobs-kept i .exit; channels = l .channels-kept i }
+  bounds-kept = λ i. record { nodes = l .tables i .nodes; exit = l .tables i .jobs .exit; channels = l .tables i .channels .count }
 
   -- no node has a job past the sixteenth
   pub owners-few : OwnersBelow 16 owner
-  owners-few = owners-on p owner (l .owners-kept) (subst (λ (t : Jobs). t .count ≤ 16) (l .jobs-kept) (l .few-jobs))
+  owners-few = owners-on p owner (l .owners-kept) (l .few-jobs)
 
-  faults-kept : (s : Faults) (arcs : Arcs) (xs : List Arc) → arcs ≡ arcTable xs → s ≡ faultsOf bounds owner (arcsIn arcs) → s ≡ faultsOf (boundsOf p) owner xs
-  faults-kept s arcs xs e f =
-      let kept = ap arcsIn e ∙ arcs-kept xs in
+  -- there are no more of each than they have places for
+  pub few-jobs : d .jobs .count ≤ 16
+  few-jobs = subst (λ (t : Decoded). t .jobs .count ≤ 16) (sym (l .tables)) (l .few-jobs)
+
+  pub few-steps : d .steps ≤ 256
+  few-steps = subst (λ (t : Decoded). t .steps ≤ 256) (sym (l .tables)) (l .few-steps)
+
+  pub few-calls : d .calls ≤ 128
+  few-calls = subst (λ (t : Decoded). t .calls ≤ 128) (sym (l .tables)) (l .few-calls)
+
+  pub few-accepts : d .accepts ≤ 128
+  few-accepts = subst (λ (t : Decoded). t .accepts ≤ 128) (sym (l .tables)) (l .few-accepts)
+
+  faults-kept : (s : Faults) (at n : ℕ) (xs : List Arc) → n ≡ length xs → arcsOn words at (length xs) ≡ xs → s ≡ faultsOf bounds owner (arcsOn words at n) → s ≡ faultsOf (boundsOf p) owner xs
+  faults-kept s at n xs e q f =
+      let kept = ap (arcsOn words at) e ∙ q in
       f ∙ (λ i. faultsOf (bounds-kept i) owner (kept i))
 
-  pub lent-tested : (s c a : Faults) → s ≡ faultsOf bounds owner (arcsIn steps) → c ≡ faultsOf bounds owner (arcsIn calls) → a ≡ faultsOf bounds owner (arcsIn accepts)
-      → Tested p nodes owner jobs s c a
+  pub lent-tested : (s c a : Faults) → s ≡ faultsOf bounds owner (arcsOn words 0 (d .steps)) → c ≡ faultsOf bounds owner (arcsOn words 256 (d .calls)) → a ≡ faultsOf bounds owner (arcsOn words 384 (d .accepts))
+      → Tested p (d .nodes) owner (d .jobs) s c a
   lent-tested s c a es ec ea = record {
-    same-nodes = l .same-nodes;
-    jobs-kept = ap jobsIn (l .jobs-kept) ∙ jobs-kept (p .jobs);
+    same-nodes = ap (λ (t : Decoded). t .nodes) (l .tables);
+    jobs-kept = ap (λ (t : Decoded). jobsIn (t .jobs)) (l .tables) ∙ jobs-kept (p .jobs);
     owners-kept = l .owners-kept;
-    steps = faults-kept s steps (p .steps) (l .steps-kept) es;
-    calls = faults-kept c calls (p .calls) (l .calls-kept) ec;
-    accepts = faults-kept a accepts (p .accepts) (l .accepts-kept) ea;
+    steps = faults-kept s 0 (d .steps) (p .steps) (ap (λ (t : Decoded). t .steps) (l .tables)) (l .steps) es;
+    calls = faults-kept c 256 (d .calls) (p .calls) (ap (λ (t : Decoded). t .calls) (l .tables)) (l .calls) ec;
+    accepts = faults-kept a 384 (d .accepts) (p .accepts) (ap (λ (t : Decoded). t .accepts) (l .tables)) (l .accepts) ea;
   }
-
--- the tables of a plan can be lent
-pub tables-lent : (p : Plan) (d : Decoded) (owner : List ℕ) → Tabled d → d ≡ decodedOf p → owner ≡ padded 256 (owners (p .jobs))
-    → Lent p (d .nodes) owner (d .jobs) (d .channels .count) (d .steps) (d .calls) (d .accepts)
-tables-lent p d owner t e o = record {
-  few-jobs = t .jobs;
-  few-steps = t .steps;
-  few-calls = t .calls;
-  few-accepts = t .accepts;
-  same-nodes = ap (λ (x : Decoded). x .nodes) e;
-  owners-kept = o;
-  jobs-kept = ap (λ (x : Decoded). x .jobs) e;
-  channels-kept = ap (λ (x : Decoded). x .channels .count) e;
-  steps-kept = ap (λ (x : Decoded). x .steps) e;
-  calls-kept = ap (λ (x : Decoded). x .calls) e;
-  accepts-kept = ap (λ (x : Decoded). x .accepts) e;
-}

@@ -5,9 +5,9 @@ use mathlib.Core.List.{List}
 use Prim.Native.Nat.{ℕ}
 use lib.Dec.{ltb, leb, eqb}
 use Rattle.sections.specs.declared.Jobs.{Jobs}
-use Rattle.sections.specs.declared.Arcs.{Arcs}
+use Rattle.sections.specs.Plan.{Arc}
 use Rattle.rows.specs.Rows.{place}
-use Rattle.sections.specs.Tables.{jobIn, arcIn}
+use Rattle.sections.specs.Tables.{jobIn}
 use Rattle.plan.specs.Refusals.{stray, apart, leaving, unknown}
 use Rattle.ends.specs.declared.Bounds.{Bounds}
 
@@ -21,19 +21,19 @@ module _ (owner : List ℕ) where
       let s' = s ∙ ap (place owner) q in
       λ k. not ((ltb (p k) nodes && eqb (r' k) i) && (ltb (q k) nodes && eqb (s' k) i))
 
-  module _ (g : Bounds) (arcs : Arcs) (i from : ℕ) (p : from ≡ place (arcs .from) i) where
-    pub apart-read : (to job other : ℕ) → to ≡ place (arcs .to) i → job ≡ place owner from → other ≡ place owner to
-        → not (ltb from (g .nodes) && (ltb to (g .nodes) && eqb job other)) ≡ apart (g .nodes) (place owner) (arcIn arcs i)
+  module _ (g : Bounds) (a : Arc) (from : ℕ) (p : from ≡ a .from) where
+    pub apart-read : (to job other : ℕ) → to ≡ a .to → job ≡ place owner from → other ≡ place owner to
+        → not (ltb from (g .nodes) && (ltb to (g .nodes) && eqb job other)) ≡ apart (g .nodes) (place owner) a
     apart-read to job other q r s =
         let r' = r ∙ ap (place owner) p in
         let s' = s ∙ ap (place owner) q in
         λ k. not (ltb (p k) (g .nodes) && (ltb (q k) (g .nodes) && eqb (r' k) (s' k)))
 
     pub leaving-read : (job exit : ℕ) → job ≡ place owner from → exit ≡ place (g .exit) job
-        → eqb from exit ≡ leaving (place owner) (place (g .exit)) (arcIn arcs i)
+        → eqb from exit ≡ leaving (place owner) (place (g .exit)) a
     leaving-read job exit r s =
         let s' = s ∙ ap (place (g .exit)) (r ∙ ap (place owner) p) in
         λ k. eqb (p k) (s' k)
 
-pub unknown-read : (g : Bounds) (arcs : Arcs) (i label : ℕ) → label ≡ place (arcs .label) i → leb (g .channels) label ≡ unknown (g .channels) (arcIn arcs i)
-unknown-read g arcs i label p = ap (leb (g .channels)) p
+pub unknown-read : (g : Bounds) (a : Arc) (label : ℕ) → label ≡ a .label → leb (g .channels) label ≡ unknown (g .channels) a
+unknown-read g a label p = ap (leb (g .channels)) p

@@ -4,14 +4,15 @@ use mathlib.Core.Path.{_≡_}
 use mathlib.Core.List.{List}
 use Prim.Native.Nat.{ℕ, _≤_}
 use lib.ListN.{length}
-use Rattle.sections.specs.declared.Arcs.{Arcs}
+use Rattle.sections.specs.declared.Decoded.{Decoded}
 use Rattle.sections.specs.declared.Jobs.{Jobs}
 use Rattle.sections.specs.Plan.{Arc, Plan}
 use Rattle.rows.specs.Rows.{padded, place}
-use Rattle.sections.specs.Tables.{exits, jobsIn, jobTable, arcTable}
+use Rattle.sections.specs.Tables.{exits, jobsIn, decodedOf}
 use Rattle.plan.specs.Checks.{any}
 use Rattle.plan.specs.Nodes.{owners}
 use Rattle.plan.specs.Refusals.{apart, leaving, unknown}
+use Rattle.words.specs.Words.{arcsOn}
 use Rattle.ends.specs.declared.Bounds.{Bounds}
 use Rattle.ends.specs.declared.Faults.{Faults}
 
@@ -21,10 +22,6 @@ boundsOf p = record {
   exit = padded 16 (exits (p .jobs));
   channels = length (p .channels);
 }
-
--- a section of arcs whose arrays are lent
-abbrev pub lent : (count : ℕ) → (from to label : List ℕ) → Arcs
-lent count from to label = record { from = from; to = to; label = label; count = count }
 
 -- which faults the arcs of a section have
 abbrev pub faultsOf : Bounds → List ℕ → List Arc → Faults
@@ -43,16 +40,14 @@ pub record Tested (p : Plan) (nodes : ℕ) (owner : List ℕ) (jobs : Jobs) (s c
   pub calls : c ≡ faultsOf (boundsOf p) owner (p .calls)
   pub accepts : a ≡ faultsOf (boundsOf p) owner (p .accepts)
 
--- what is lent is of the tables of the plan p, and holds no more than they have places for
-pub record Lent (p : Plan) (nodes : ℕ) (owner : List ℕ) (jobs : Jobs) (channels : ℕ) (steps calls accepts : Arcs) : Type 0 where
-  pub few-jobs : jobs .count ≤ 16
-  pub few-steps : steps .count ≤ 256
-  pub few-calls : calls .count ≤ 256
-  pub few-accepts : accepts .count ≤ 256
-  pub same-nodes : nodes ≡ p .nodes
+-- the tables, the job of each node and the words are those of the plan p, and hold no more than they have places for
+pub record Lent (p : Plan) (d : Decoded) (owner words : List ℕ) : Type 0 where
+  pub few-jobs : length (p .jobs) ≤ 16
+  pub few-steps : length (p .steps) ≤ 256
+  pub few-calls : length (p .calls) ≤ 128
+  pub few-accepts : length (p .accepts) ≤ 128
+  pub tables : d ≡ decodedOf p
   pub owners-kept : owner ≡ padded 256 (owners (p .jobs))
-  pub jobs-kept : jobs ≡ jobTable (p .jobs)
-  pub channels-kept : channels ≡ length (p .channels)
-  pub steps-kept : steps ≡ arcTable (p .steps)
-  pub calls-kept : calls ≡ arcTable (p .calls)
-  pub accepts-kept : accepts ≡ arcTable (p .accepts)
+  pub steps : arcsOn words 0 (length (p .steps)) ≡ p .steps
+  pub calls : arcsOn words 256 (length (p .calls)) ≡ p .calls
+  pub accepts : arcsOn words 384 (length (p .accepts)) ≡ p .accepts

@@ -1,16 +1,18 @@
 // Refusals 6 to 9, which ask for the job of a node: entries and exits, and the ends of arcs.
 use plan::Outcome;
+use sections::Decoded;
 use sections::Jobs;
 ghost use mathlib.Core.Path.{_≡_};
-ghost use Prim.Native.Nat.{_≤_};
+ghost use Prim.Native.Nat.{_+_, _≤_};
 ghost use Rattle.rows.specs.Rows.{place};
 ghost use Rattle.sections.specs.Plan.{Plan};
-ghost use Rattle.sections.specs.Tables.{jobsIn, arcsIn};
+ghost use Rattle.sections.specs.Tables.{jobsIn};
 ghost use Rattle.plan.specs.Checks.{first, anyNumbered};
 ghost use Rattle.plan.specs.Bounds.{OwnersBelow};
 ghost use Rattle.plan.specs.Refusals.{stray, ends};
 ghost use Rattle.plan.specs.Outcomes.{outcomeOf};
-ghost use Rattle.ends.specs.Faults.{lent, faultsOf, Tested, Lent};
+ghost use Rattle.words.specs.Words.{arcsOn};
+ghost use Rattle.ends.specs.Faults.{faultsOf, Tested, Lent};
 
 // What the tests of arcs go by, beside the job of each node.
 struct Bounds {
@@ -46,17 +48,16 @@ struct Faults {
     unknown: bool,
 }
 
-// One pass over a section.
+// One pass over a section: the arcs that stand from the place `at` on.
 fn find_faults<'a>(
     g: Bounds,
     owner: &'a [u8; 256],
+    words: &'a [u32; 512],
+    at: usize,
     count: usize,
-    froms: &'a [u8; 256],
-    tos: &'a [u8; 256],
-    labels: &'a [u8; 256],
 ) -> Faults
-    requires { ⌜ (count ≤ 256) × OwnersBelow 16 (now owner) ⌝ }
-    ensures { λ r. ⌜ r ≡ faultsOf g (now (owner .entry)) (arcsIn (lent count (now (froms .entry)) (now (tos .entry)) (now (labels .entry)))) ⌝ }
+    requires { ⌜ (at + count ≤ 512) × OwnersBelow 16 (now owner) ⌝ }
+    ensures { λ r. ⌜ r ≡ faultsOf g (now (owner .entry)) (arcsOn (now (words .entry)) at count) ⌝ }
 {
     let nodes = g.nodes;
     let channels = g.channels;
@@ -65,9 +66,10 @@ fn find_faults<'a>(
     let mut unknown = false;
     let mut i: usize = 0;
     while i < count {
-        let from = sections::byte(froms[i]);
-        let to = sections::byte(tos[i]);
-        let label = sections::byte(labels[i]);
+        let word = words[at + i];
+        let from = words::from_of(word);
+        let to = words::to_of(word);
+        let label = words::label_of(word);
         let job = sections::byte(owner[from]);
         let other = sections::byte(owner[to]);
         let exit = sections::byte(g.exit[job]);
@@ -103,36 +105,19 @@ fn first_of(nodes: usize, owner: &[u8; 256], jobs: Jobs, s: Faults, c: Faults, a
     Outcome::Accepted
 }
 
-// Refusals 6 to 9, from what is lent of a plan's tables and the job of each node.
-pub fn bounded<'a>(
-    nodes: usize,
-    owner: &'a [u8; 256],
-    jobs: Jobs,
-    channels: usize,
-    steps: usize,
-    froms: &'a [u8; 256],
-    tos: &'a [u8; 256],
-    labels: &'a [u8; 256],
-    calls: usize,
-    callers: &'a [u8; 256],
-    calltos: &'a [u8; 256],
-    called: &'a [u8; 256],
-    accepts: usize,
-    takers: &'a [u8; 256],
-    taketos: &'a [u8; 256],
-    taken: &'a [u8; 256],
-) -> Outcome
-    requires { ⌜ ((p : Plan) × Lent p nodes (now owner) jobs channels (lent steps (now froms) (now tos) (now labels)) (lent calls (now callers) (now calltos) (now called)) (lent accepts (now takers) (now taketos) (now taken))) ⌝ }
-    ensures { λ r. ⌜ ((p : Plan) → Lent p nodes (now (owner .entry)) jobs channels (lent steps (now (froms .entry)) (now (tos .entry)) (now (labels .entry))) (lent calls (now (callers .entry)) (now (calltos .entry)) (now (called .entry))) (lent accepts (now (takers .entry)) (now (taketos .entry)) (now (taken .entry))) → r ≡ outcomeOf (first ends p)) ⌝ }
+// Refusals 6 to 9, from the tables of a plan, the job of each node and the words of its arcs.
+pub fn bounded<'a>(d: Decoded, owner: &'a [u8; 256], words: &'a [u32; 512]) -> Outcome
+    requires { ⌜ ((p : Plan) × Lent p d (now owner) (now words)) ⌝ }
+    ensures { λ r. ⌜ ((p : Plan) → Lent p d (now (owner .entry)) (now (words .entry)) → r ≡ outcomeOf (first ends p)) ⌝ }
 {
-    let exit = jobs.exit;
+    let exit = d.jobs.exit;
     let g = Bounds {
-        nodes: nodes,
+        nodes: d.nodes,
         exit: exit,
-        channels: channels,
+        channels: d.channels.count,
     };
-    let s = find_faults(g, owner, steps, froms, tos, labels);
-    let c = find_faults(g, owner, calls, callers, calltos, called);
-    let a = find_faults(g, owner, accepts, takers, taketos, taken);
-    first_of(nodes, owner, jobs, s, c, a)
+    let s = find_faults(g, owner, words, 0, d.steps);
+    let c = find_faults(g, owner, words, 256, d.calls);
+    let a = find_faults(g, owner, words, 384, d.accepts);
+    first_of(d.nodes, owner, d.jobs, s, c, a)
 }

@@ -5,10 +5,12 @@ use reader::Reading;
 ghost use mathlib.Core.Path.{_≡_};
 ghost use mathlib.Core.Bool.{not};
 ghost use denote.Ref.{ptr};
+ghost use lib.ListN.{length};
 ghost use Rattle.regex.specs.Items.{patternOf};
 ghost use Rattle.items.specs.Tables.{itemsOn};
 ghost use Rattle.items.specs.Postfix.{Postfix};
 ghost use Rattle.automaton.specs.Automaton.{statesOf};
+ghost use Rattle.reader.specs.Reading.{WordsOf};
 ghost use Rattle.pattern.specs.Refusals.{overLimit, PartOf};
 ghost use Rattle.pattern.specs.Reading.{refused, patternReadOf};
 
@@ -28,11 +30,13 @@ fn turned_down(n: u32) -> PatternRead
     }
 }
 
-// The plan that the bytes hold and the items of its pattern, or the first refusal of 1 to 15 that applies.
-pub fn read_pattern(plan: &[u8]) -> PatternRead
-    ensures { λ r. ⌜ r ≡ patternReadOf (now (plan .entry)) ⌝ }
+// The plan that the bytes hold and the items of its pattern, or the first refusal of 1 to 15 that applies. Where none of 1 to 4 does, its
+// arcs go into the words.
+pub fn read_pattern(plan: &[u8], words: &mut [u32; 512]) -> PatternRead
+    requires { ⌜ length (now words) ≡ 512 ⌝ }
+    ensures { λ r. ⌜ (r ≡ patternReadOf (now (plan .entry))) × WordsOf (now (plan .entry)) (now (words .entry)) (now (words .exit)) ⌝ }
 {
-    let reading = reader::read_plan(plan);
+    let reading = reader::read_plan(plan, words);
     let found = reading.outcome;
     match found {
         Outcome::Refused(n) => turned_down(n),
@@ -69,7 +73,8 @@ fn few_states(items: Items, alphabet: u32) -> bool
 pub fn pattern_part(plan: &[u8]) -> &[u8]
     ensures { λ r. ⌜ PartOf (now (plan .entry)) (ptr (plan .entry)) (now r) (ptr r) ⌝ }
 {
-    let read = read_pattern(plan);
+    let mut words = [0u32; 512];
+    let read = read_pattern(plan, &mut words);
     let reading = read.reading;
     let found = reading.outcome;
     match found {

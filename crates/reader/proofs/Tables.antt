@@ -1,67 +1,79 @@
 -- What the tables that were read tell of the plan, and of refusals 5 to 9. Assumes nothing.
-use mathlib.Core.Path.{_≡_, sym, ap, _∙_}
+use mathlib.Core.Path.{_≡_, sym, ap, _∙_, subst}
 use mathlib.Core.Bool.{Bool, true, false}
 use mathlib.Core.Option.{none, some}
 use mathlib.Core.List.{List}
 use Prim.Native.Nat.{ℕ, _+_, _/_, _≤_}
 use native.Mathlib.Omega.{arith}
+use lib.ListN.{length}
 use Rattle.rows.specs.Rows.{padded}
 use Rattle.rows.proofs.Rows.{row-length}
 use Rattle.sections.specs.declared.Head.{Head}
 use Rattle.sections.specs.declared.Decoded.{Decoded}
-use Rattle.sections.specs.Plan.{Plan}
+use Rattle.sections.specs.Plan.{Job, Plan}
 use Rattle.sections.specs.Layout.{headOf, endAt, patternAt, planOf, planUnder}
-use Rattle.sections.specs.Tables.{sizes, decodedOf, planIn, jobsIn}
-use Rattle.sections.proofs.Kept.{plan-kept}
+use Rattle.sections.specs.Tables.{sizes, decodedOf, jobsIn}
+use Rattle.sections.proofs.Kept.{jobs-kept}
 use Rattle.plan.specs.Checks.{first}
 use Rattle.plan.specs.Nodes.{owners, total}
 use Rattle.plan.specs.Refusals.{sizesWrong, wrongSizes, framing, ends, shape}
-use Rattle.plan.specs.Bounds.{Tabled}
 use Rattle.plan.specs.Outcomes.{outcomeOf}
 use Rattle.plan.specs.declared.Outcome.{Outcome}
 use Rattle.plan.proofs.Tests.{told}
 use Rattle.plan.proofs.Ranges.{Ranged, Framed, framed}
 use Rattle.plan.proofs.Ends.{shape-5, shape-past, sizes-right}
+use Rattle.words.specs.Words.{Worded}
+use Rattle.words.proofs.Words.{steps-listed, calls-listed, accepts-listed}
 use Rattle.ends.specs.Faults.{Lent}
-use Rattle.ends.proofs.Arrays.{tables-lent}
 
--- the tables d were read under the head h from bytes that passed refusals 1 to 4
-pub record Read (b : List ℕ) (h : Head) (d : Decoded) : Type 0 where
+-- the tables d were read under the head h from bytes that passed refusals 1 to 4, and the arcs into the words
+pub record Read (b : List ℕ) (h : Head) (d : Decoded) (before words : List ℕ) : Type 0 where
   pub passed : first framing b ≡ none
   pub head : h ≡ headOf b
   pub tables : d ≡ decodedOf (planUnder b h)
+  pub arcs : Worded (planUnder b h) before words
 
-under : (b : List ℕ) (h : Head) → h ≡ headOf b → decodedOf (planUnder b h) ≡ decodedOf (planOf b)
+under : (b : List ℕ) (h : Head) → h ≡ headOf b → planUnder b h ≡ planOf b
 unfolding planOf
-under b h e = ap (λ (x : Head). decodedOf (planUnder b x)) e
+under b h e = ap (planUnder b) e
 
-nodes-read : (b : List ℕ) → Framed b → (d : Decoded) → d ≡ decodedOf (planOf b) → d .nodes ≤ 256
+-- the plan of bytes that passed has no more of each than its tables have places for
+record Few (p : Plan) : Type 0 where
+  nodes : p .nodes ≤ 256
+  jobs : length (p .jobs) ≤ 16
+  steps : length (p .steps) ≤ 256
+  calls : length (p .calls) ≤ 128
+  accepts : length (p .accepts) ≤ 128
+
+few : (b : List ℕ) → Framed b → Few (planOf b)
 unfolding planOf
-nodes-read b f d e = rw e (f .counts .nodes)
-
-plan-in : (d : Decoded) (p : Plan) → d ≡ decodedOf p → planIn d ≡ p
-plan-in d p e = ap planIn e ∙ plan-kept p
-
-tabled : (b : List ℕ) → Framed b → (d : Decoded) → d ≡ decodedOf (planOf b) → Tabled d
-unfolding planOf
-tabled b f d e = record {
-  kept = e ∙ ap decodedOf (sym (plan-in d (planOf b) e));
-  jobs = rw (e, row-length) (f .counts .jobs);
-  steps = rw (e, row-length) (f .counts .steps);
-  calls = rw (e, row-length) (omega (arith, f .counts .calls));
-  accepts = rw (e, row-length) (omega (arith, f .counts .accepts));
+few b f = record {
+  nodes = f .counts .nodes;
+  jobs = rw row-length (f .counts .jobs);
+  steps = rw row-length (f .counts .steps);
+  calls = rw row-length (f .counts .calls);
+  accepts = rw row-length (f .counts .accepts);
 }
 
-module _ {b : List ℕ} {h : Head} {d : Decoded} (r : Read b h d) where
-  -- the tables are those of the plan that the bytes say, and hold it
+module _ {b : List ℕ} {h : Head} {d : Decoded} {before words : List ℕ} (r : Read b h d before words) where
+  said : planUnder b h ≡ planOf b
+  said = under b h (r .head)
+
+  -- the tables are those of the plan that the bytes say, and its arcs stand in the words
   pub kept : d ≡ decodedOf (planOf b)
-  kept = r .tables ∙ under b h (r .head)
+  kept = r .tables ∙ ap decodedOf said
 
-  said : planIn d ≡ planOf b
-  said = plan-in d (planOf b) kept
+  pub worded : Worded (planOf b) before words
+  worded = subst (λ (p : Plan). Worded p before words) said (r .arcs)
 
-  pub held : Tabled d
-  held = tabled b (framed b (r .passed)) d kept
+  small : Few (planOf b)
+  small = few b (framed b (r .passed))
+
+  jobs-said : jobsIn (d .jobs) ≡ planOf b .jobs
+  jobs-said = ap (λ (t : Decoded). jobsIn (t .jobs)) kept ∙ jobs-kept (planOf b .jobs)
+
+  pub jobs-few : d .jobs .count ≤ 16
+  jobs-few = subst (λ (t : Decoded). t .jobs .count ≤ 16) (sym kept) (small .jobs)
 
   -- the counts are within their ranges
   pub counts : Ranged h
@@ -74,14 +86,14 @@ module _ {b : List ℕ} {h : Head} {d : Decoded} (r : Read b h d) where
   -- refusal 5 goes by its test
   module _ {w : Bool} (test : w ≡ sizesWrong (d .nodes) (jobsIn (d .jobs))) where
     wrong : w ≡ wrongSizes (planOf b)
-    wrong = test ∙ ap wrongSizes said
+    wrong = test ∙ (λ i. sizesWrong (kept i .nodes) (jobs-said i))
 
     pub sizes-refused : w ≡ true → first shape (planOf b) ≡ some 5
     sizes-refused e = shape-5 (planOf b) (told wrong e)
 
     -- where it does not apply, the jobs have 256 nodes at most
     pub nodes-few : w ≡ false → total (sizes (jobsIn (d .jobs))) ≤ 256
-    nodes-few e = omega (arith, sizes-right (d .nodes) (jobsIn (d .jobs)) (told test e), nodes-read b (framed b (r .passed)) d kept)
+    nodes-few e = omega (arith, sizes-right (d .nodes) (jobsIn (d .jobs)) (told test e), ap (λ (t : Decoded). t .nodes) kept, small .nodes)
 
     -- and 6 to 9 are next
     pub ends-next : w ≡ false → (o : Outcome) → o ≡ outcomeOf (first ends (planOf b)) → outcomeOf (first shape (planOf b)) ≡ o
@@ -90,7 +102,17 @@ module _ {b : List ℕ} {h : Head} {d : Decoded} (r : Read b h d) where
   -- the job of each node, and with it what is lent
   module _ {owner : List ℕ} (o : owner ≡ padded 256 (owners (jobsIn (d .jobs)))) where
     pub owners-kept : owner ≡ padded 256 (owners (planOf b .jobs))
-    owners-kept = o ∙ ap (λ (p : Plan). padded 256 (owners (p .jobs))) said
+    owners-kept = o ∙ ap (λ (l : List Job). padded 256 (owners l)) jobs-said
 
-    pub lent-of : Lent (planOf b) (d .nodes) owner (d .jobs) (d .channels .count) (d .steps) (d .calls) (d .accepts)
-    lent-of = tables-lent (planOf b) d owner held kept owners-kept
+    pub lent-of : Lent (planOf b) d owner words
+    lent-of = record {
+      few-jobs = small .jobs;
+      few-steps = small .steps;
+      few-calls = small .calls;
+      few-accepts = small .accepts;
+      tables = kept;
+      owners-kept = owners-kept;
+      steps = steps-listed worded;
+      calls = calls-listed worded;
+      accepts = accepts-listed worded;
+    }

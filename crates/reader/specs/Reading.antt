@@ -2,6 +2,7 @@
 use Prim.Native.Nat.{ℕ}
 use mathlib.Core.Option.{Option, none, some}
 use mathlib.Core.List.{List, []}
+use mathlib.Core.Path.{_≡_}
 use Rattle.sections.specs.Plan.{nothing}
 use Rattle.sections.specs.Layout.{headOf, patternAt, planOf}
 use Rattle.rows.specs.Rows.{padded}
@@ -9,7 +10,8 @@ use Rattle.sections.specs.Tables.{decodedOf}
 use Rattle.plan.specs.declared.Outcome.the-variants.{Accepted, Refused}
 use Rattle.plan.specs.Checks.{first}
 use Rattle.plan.specs.Nodes.{owners}
-use Rattle.plan.specs.Refusals.{order}
+use Rattle.plan.specs.Refusals.{framing, order}
+use Rattle.words.specs.Words.{Worded}
 use Rattle.reader.specs.declared.Reading.{Reading}
 
 -- an accepted plan, with the job of each node and the byte where its pattern starts
@@ -32,3 +34,11 @@ answered (some n) b = refused n
 -- the reader's answer to the bytes of a plan
 unfoldable pub readingOf : List ℕ → Reading
 readingOf b = answered (first order b) b
+
+-- where none of 1 to 4 applies the arcs of the plan stand in the words; else these are as they were
+abbrev pub wordsUnder : Option ℕ → (b before after : List ℕ) → Type 0
+wordsUnder none b before after = Worded (planOf b) before after
+wordsUnder (some n) b before after = after ≡ before
+
+unfoldable pub WordsOf : (b before after : List ℕ) → Type 0
+WordsOf b before after = wordsUnder (first framing b) b before after

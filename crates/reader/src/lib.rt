@@ -13,7 +13,8 @@ ghost use Rattle.sections.specs.Layout.{planOf};
 ghost use Rattle.plan.specs.Checks.{first};
 ghost use Rattle.plan.specs.Nodes.{owners, total};
 ghost use Rattle.plan.specs.Refusals.{framing, shape};
-ghost use Rattle.reader.specs.Reading.{refused, answered, readingOf};
+ghost use Rattle.words.specs.Words.{Worded};
+ghost use Rattle.reader.specs.Reading.{refused, answered, readingOf, WordsOf};
 
 // A plan that was read: its tables, the job of each node, and the byte where the pattern starts. Nothing on a refusal.
 pub struct Reading {
@@ -65,35 +66,18 @@ pub fn turned_down(n: u32) -> Reading
     }
 }
 
-// The reading of a plan that passed refusals 1 to 4.
-fn read_sections(plan: &[u8]) -> Reading
-    requires { ⌜ first framing (now plan) ≡ none ⌝ }
-    ensures { λ r. ⌜ r ≡ answered (first shape (planOf (now (plan .entry)))) (now (plan .entry)) ⌝ }
+// The reading of a plan that passed refusals 1 to 4. Its arcs go into the words. Public for the judge.
+pub fn read_sections(plan: &[u8], words: &mut [u32; 512]) -> Reading
+    requires { ⌜ (first framing (now plan) ≡ none) × (length (now words) ≡ 512) ⌝ }
+    ensures { λ r. ⌜ (r ≡ answered (first shape (planOf (now (plan .entry)))) (now (plan .entry))) × Worded (planOf (now (plan .entry))) (now (words .entry)) (now (words .exit)) ⌝ }
 {
     let h = sections::read_head(plan);
-    let d = tables::decode(plan, h);
+    let d = tables::decode(plan, h, words);
     if plan::sizes_wrong(d.nodes, d.jobs) {
         return turned_down(5);
     }
     let owner = owners_of(d.jobs);
-    let found = ends::bounded(
-        d.nodes,
-        &owner,
-        d.jobs,
-        d.channels.count,
-        d.steps.count,
-        &d.steps.from,
-        &d.steps.to,
-        &d.steps.label,
-        d.calls.count,
-        &d.calls.from,
-        &d.calls.to,
-        &d.calls.label,
-        d.accepts.count,
-        &d.accepts.from,
-        &d.accepts.to,
-        &d.accepts.label,
-    );
+    let found = ends::bounded(d, &owner, words);
     match found {
         Outcome::Refused(n) => turned_down(n),
         Outcome::Accepted => Reading {
@@ -105,13 +89,14 @@ fn read_sections(plan: &[u8]) -> Reading
     }
 }
 
-// The plan that the bytes hold, or the first refusal of 1 to 9 that applies.
-pub fn read_plan(plan: &[u8]) -> Reading
-    ensures { λ r. ⌜ r ≡ readingOf (now (plan .entry)) ⌝ }
+// The plan that the bytes hold, or the first refusal of 1 to 9 that applies. Where none of 1 to 4 does, its arcs go into the words.
+pub fn read_plan(plan: &[u8], words: &mut [u32; 512]) -> Reading
+    requires { ⌜ length (now words) ≡ 512 ⌝ }
+    ensures { λ r. ⌜ (r ≡ readingOf (now (plan .entry))) × WordsOf (now (plan .entry)) (now (words .entry)) (now (words .exit)) ⌝ }
 {
     let found = plan::framed(plan);
     match found {
         Outcome::Refused(n) => turned_down(n),
-        Outcome::Accepted => read_sections(plan),
+        Outcome::Accepted => read_sections(plan, words),
     }
 }

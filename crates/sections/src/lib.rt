@@ -4,7 +4,7 @@ ghost use Prim.Native.Nat.{_<_, _≤_};
 ghost use lib.ListN.{length};
 ghost use Rattle.sections.specs.Plan.{nothing};
 ghost use Rattle.sections.specs.Layout.{headOf, endAt};
-ghost use Rattle.sections.specs.Tables.{arcTable, decodedOf};
+ghost use Rattle.sections.specs.Tables.{decodedOf};
 
 // What a plan claims of its complete runs.
 pub enum Kind {
@@ -32,31 +32,23 @@ pub struct Jobs {
     pub count: usize,
 }
 
-// Local steps, calls or accepts, a place in each array for each.
-pub struct Arcs {
-    pub from: [u8; 256],
-    pub to: [u8; 256],
-    pub label: [u8; 256],
-    pub count: usize,
-}
-
 // The event of each channel.
 pub struct Channels {
     pub event: [u8; 64],
     pub count: usize,
 }
 
-// What a plan says before its pattern.
+// What a plan says before its pattern. Of its steps, calls and accepts it has how many there are; they stand in a lent row of words.
 pub struct Decoded {
     pub nodes: usize,
     pub kind: Kind,
     pub items: usize,
     pub alphabet: u32,
     pub jobs: Jobs,
-    pub steps: Arcs,
+    pub steps: usize,
     pub channels: Channels,
-    pub calls: Arcs,
-    pub accepts: Arcs,
+    pub calls: usize,
+    pub accepts: usize,
 }
 
 // A place of a table as a number to reckon with: the contract has the range.
@@ -91,18 +83,6 @@ pub fn end_of(h: Head) -> usize
     85 + 25 * h.jobs + 21 * h.steps + 5 * h.channels + 22 * h.calls + 22 * h.accepts
 }
 
-// The table of no arcs.
-pub fn no_arcs() -> Arcs
-    ensures { λ r. ⌜ r ≡ arcTable (nothing .steps) ⌝ }
-{
-    Arcs {
-        from: [0; 256],
-        to: [0; 256],
-        label: [0; 256],
-        count: 0,
-    }
-}
-
 // The tables of no plan.
 pub fn blank() -> Decoded
     ensures { λ r. ⌜ r ≡ decodedOf nothing ⌝ }
@@ -118,12 +98,12 @@ pub fn blank() -> Decoded
             exit: [0; 16],
             count: 0,
         },
-        steps: no_arcs(),
+        steps: 0,
         channels: Channels {
             event: [0; 64],
             count: 0,
         },
-        calls: no_arcs(),
-        accepts: no_arcs(),
+        calls: 0,
+        accepts: 0,
     }
 }

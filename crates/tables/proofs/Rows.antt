@@ -1,5 +1,5 @@
 -- Records of so many bits one after the other, and the tables of all of them. Assumes nothing.
-use mathlib.Core.Path.{_≡_, ap, ap₂, _∙_}
+use mathlib.Core.Path.{_≡_, sym, ap, ap₂, _∙_}
 use mathlib.Core.List.{List}
 use Prim.Native.Nat.{ℕ, _+_, _*_, _/_, _%_, _^_, _≤_, _<_}
 use native.Mathlib.Nat.{mul-suc, mul-le-mul, mul-le-mul-left}
@@ -7,17 +7,16 @@ use native.Mathlib.Omega.{arith}
 use lib.ListN.{length}
 use Rattle.fields.specs.Bits.{fieldAt, eventsAt}
 use Rattle.fields.proofs.Laws.{field-front, field-back, field-within, shifted}
-use Rattle.sections.specs.Layout.{alphabetAt, arcAt, jobsOf, arcsAt, stepsAt, channelsOf, callsAt, acceptsAt, planUnder}
+use Rattle.sections.specs.Layout.{alphabetAt, arcAt, jobsOf, stepsAt, channelsOf, callsAt, acceptsAt, planUnder}
 use Rattle.sections.specs.declared.Kind.{Kind}
 use Rattle.sections.specs.declared.Head.{Head}
 use Rattle.sections.specs.declared.Jobs.{Jobs}
-use Rattle.sections.specs.declared.Arcs.{Arcs}
 use Rattle.sections.specs.declared.Channels.{Channels}
 use Rattle.sections.specs.declared.Decoded.{Decoded}
-use Rattle.sections.specs.Plan.{Job, Arc, kindOf}
+use Rattle.sections.specs.Plan.{Job, kindOf}
 use Rattle.rows.specs.Rows.{row, padded}
 use Rattle.rows.proofs.Rows.{row-length}
-use Rattle.sections.specs.Tables.{sizes, entries, exits, froms, tos, labels, jobTable, arcTable, channelTable, decodedOf}
+use Rattle.sections.specs.Tables.{sizes, entries, exits, jobTable, channelTable, decodedOf}
 
 -- ---- records of k bits, one after the other
 
@@ -46,24 +45,21 @@ pub jobs-read : (f : ℕ → Job) (i n : ℕ) → i ≡ n → (size entry exit :
     → _≡_ {A = Jobs} (record { size = size; entry = entry; exit = exit; count = n }) (jobTable (row n f))
 jobs-read f i n e size entry exit p q r = cc (row-length f n)
 
-pub arcs-read : (f : ℕ → Arc) (i n : ℕ) → i ≡ n → (from to label : List ℕ)
-    → from ≡ padded 256 (froms (row i f)) → to ≡ padded 256 (tos (row i f)) → label ≡ padded 256 (labels (row i f))
-    → _≡_ {A = Arcs} (record { from = from; to = to; label = label; count = n }) (arcTable (row n f))
-arcs-read f i n e from to label p q r = cc (row-length f n)
-
-pub sections-read : (b : List ℕ) (h : Head) (kind : Kind) (alphabet : ℕ) (jobs : Jobs) (steps : Arcs) (channels : Channels) (calls accepts : Arcs)
-    → kind ≡ kindOf (h .kind) → alphabet ≡ eventsAt b alphabetAt → jobs ≡ jobTable (jobsOf b h)
-    → steps ≡ arcTable (arcsAt b 5 (stepsAt h) (h .steps)) → channels ≡ channelTable (channelsOf b h)
-    → calls ≡ arcTable (arcsAt b 6 (callsAt h) (h .calls)) → accepts ≡ arcTable (arcsAt b 6 (acceptsAt h) (h .accepts))
-    → _≡_ {A = Decoded} (record { nodes = h .nodes; kind = kind; items = h .items; alphabet = alphabet; jobs = jobs; steps = steps; channels = channels; calls = calls; accepts = accepts }) (decodedOf (planUnder b h))
-sections-read b h kind alphabet jobs steps channels calls accepts p q r s t u v = λ i. record {
-  nodes = h .nodes;
-  kind = p i;
-  items = h .items;
-  alphabet = q i;
-  jobs = r i;
-  steps = s i;
-  channels = t i;
-  calls = u i;
-  accepts = v i;
-}
+pub sections-read : (b : List ℕ) (h : Head) (kind : Kind) (alphabet : ℕ) (jobs : Jobs) (channels : Channels)
+    → kind ≡ kindOf (h .kind) → alphabet ≡ eventsAt b alphabetAt → jobs ≡ jobTable (jobsOf b h) → channels ≡ channelTable (channelsOf b h)
+    → _≡_ {A = Decoded} (record { nodes = h .nodes; kind = kind; items = h .items; alphabet = alphabet; jobs = jobs; steps = h .steps; channels = channels; calls = h .calls; accepts = h .accepts }) (decodedOf (planUnder b h))
+sections-read b h kind alphabet jobs channels p q r t =
+    let steps = row-length (λ (i : ℕ). arcAt b 5 (stepsAt h + 21 * i)) (h .steps) in
+    let calls = row-length (λ (i : ℕ). arcAt b 6 (callsAt h + 22 * i)) (h .calls) in
+    let accepts = row-length (λ (i : ℕ). arcAt b 6 (acceptsAt h + 22 * i)) (h .accepts) in
+    λ i. record {
+      nodes = h .nodes;
+      kind = p i;
+      items = h .items;
+      alphabet = q i;
+      jobs = r i;
+      steps = sym steps i;
+      channels = t i;
+      calls = sym calls i;
+      accepts = sym accepts i;
+    }

@@ -1,5 +1,4 @@
 // The sections of a plan before its pattern, read into tables.
-use sections::Arcs;
 use sections::Channels;
 use sections::Decoded;
 use sections::Head;
@@ -11,8 +10,9 @@ ghost use lib.ListN.{length};
 ghost use Rattle.fields.specs.Bits.{fieldAt};
 ghost use Rattle.rows.specs.Rows.{row};
 ghost use Rattle.sections.specs.Plan.{kindOf};
-ghost use Rattle.sections.specs.Layout.{jobAt, arcsAt, planUnder, Readable};
-ghost use Rattle.sections.specs.Tables.{jobTable, arcTable, channelTable, decodedOf};
+ghost use Rattle.sections.specs.Layout.{jobAt, arcAt, planUnder, Readable};
+ghost use Rattle.sections.specs.Tables.{jobTable, channelTable, decodedOf};
+ghost use Rattle.words.specs.Words.{Packed, Worded};
 
 fn kind_of(bit: usize) -> Kind
     ensures { λ r. ⌜ r ≡ kindOf bit ⌝ }
@@ -44,22 +44,27 @@ fn read_jobs(plan: &[u8], at: usize, count: usize) -> Jobs
     }
 }
 
-// The arcs that stand from place `at` on, with labels of `width` bits.
-fn read_arcs(plan: &[u8], width: usize, at: usize, count: usize) -> Arcs
-    requires { ⌜ (width ≤ 8) × (count ≤ 256) × (at ≤ 16384) × (at + (16 + width) * count ≤ 8 * length (now plan)) ⌝ }
-    ensures { λ r. ⌜ r ≡ arcTable (arcsAt (now (plan .entry)) width at count) ⌝ }
+// The arcs that stand from the bit `at` on, with labels of `width` bits, each as a word from the place `place` on.
+fn read_arcs(
+    plan: &[u8],
+    width: usize,
+    at: usize,
+    count: usize,
+    words: &mut [u32; 512],
+    place: usize,
+)
+    requires { ⌜ (width ≤ 8) × (count ≤ 256) × (at ≤ 16384) × (at + (16 + width) * count ≤ 8 * length (now plan)) × (place + count ≤ 512) × (length (now words) ≡ 512) ⌝ }
+    ensures { λ _. ⌜ Packed (λ (i : ℕ). arcAt (now (plan .entry)) width (at + (16 + width) * i)) place count (now (words .entry)) (now (words .exit)) ⌝ }
 {
-    let mut arcs = sections::no_arcs();
     let mut i: usize = 0;
     while i < count {
         let arc = fields::field(plan, at + (16 + width) * i, 16 + width);
-        arcs.from[i] = (arc >> (8 + width)) as u8;
-        arcs.to[i] = ((arc >> width) % 256) as u8;
-        arcs.label[i] = (arc % (1 << width)) as u8;
+        let from = arc >> (8 + width);
+        let to = (arc >> width) % 256;
+        let label = arc % (1 << width);
+        words[place + i] = (from + 256 * to + 65536 * label) as u32;
         i += 1;
     }
-    arcs.count = count;
-    arcs
 }
 
 // The channels' events that stand from place `at` on.
@@ -79,24 +84,27 @@ fn read_channels(plan: &[u8], at: usize, count: usize) -> Channels
     }
 }
 
-// What the plan says before its pattern, under its head.
-pub fn decode(plan: &[u8], h: Head) -> Decoded
-    requires { ⌜ Readable (now plan) h ⌝ }
-    ensures { λ r. ⌜ r ≡ decodedOf (planUnder (now (plan .entry)) h) ⌝ }
+// What the plan says before its pattern, under its head. The arcs go into the words.
+pub fn decode(plan: &[u8], h: Head, words: &mut [u32; 512]) -> Decoded
+    requires { ⌜ Readable (now plan) h × (length (now words) ≡ 512) ⌝ }
+    ensures { λ r. ⌜ (r ≡ decodedOf (planUnder (now (plan .entry)) h)) × Worded (planUnder (now (plan .entry)) h) (now (words .entry)) (now (words .exit)) ⌝ }
 {
     let steps_at = 85 + 25 * h.jobs;
     let channels_at = steps_at + 21 * h.steps;
     let calls_at = channels_at + 5 * h.channels;
     let accepts_at = calls_at + 22 * h.calls;
+    read_arcs(plan, 5, steps_at, h.steps, words, 0);
+    read_arcs(plan, 6, calls_at, h.calls, words, 256);
+    read_arcs(plan, 6, accepts_at, h.accepts, words, 384);
     Decoded {
         nodes: h.nodes,
         kind: kind_of(h.kind),
         items: h.items,
         alphabet: fields::events(plan, 54),
         jobs: read_jobs(plan, 85, h.jobs),
-        steps: read_arcs(plan, 5, steps_at, h.steps),
+        steps: h.steps,
         channels: read_channels(plan, channels_at, h.channels),
-        calls: read_arcs(plan, 6, calls_at, h.calls),
-        accepts: read_arcs(plan, 6, accepts_at, h.accepts),
+        calls: h.calls,
+        accepts: h.accepts,
     }
 }

@@ -1,3 +1,3 @@
 -- Laws of arcs as words, and of a plan that is lent.
-mod Words
+pub mod Words
 pub mod Places

@@ -27,13 +27,13 @@ use Rattle.pattern.proofs.pattern_part.Tie as tie
 
 -- the bytes, and what the reader said of them, where it has no refusal
 abbrev bytes : tie.After-enum-told2 → List ℕ
-bytes c = c .before .before .before .before .before .args .plan .now
+bytes c = c .before .before .before .before .before .before .args .plan .now
 
 passed : (c : tie.After-enum-told2) → first readable (bytes c) ≡ none
-passed c = read-accepted (bytes c) (ap (λ (r : PatternRead). r .reading .outcome) (sym (c .before .before .before .read-pattern .ensures)) ∙ c .enum-told2 .given .1)
+passed c = read-accepted (bytes c) (ap (λ (r : PatternRead). r .reading .outcome) (sym (c .before .before .before .read-pattern .ensures .0)) ∙ c .enum-told2 .given .1)
 
 read : (c : tie.After-enum-told2) → c .before .before .before .read-pattern .result ≡ accepted (bytes c)
-read c = c .before .before .before .read-pattern .ensures ∙ answer (bytes c) none (passed c)
+read c = c .before .before .before .read-pattern .ensures .0 ∙ answer (bytes c) none (passed c)
 
 starts : (c : tie.After-enum-told2) → c .before .before .before .read-pattern .result .reading .pattern ≤ length (bytes c)
 starts c =
@@ -93,9 +93,9 @@ part-result-end-3 c = omega (arith, not-empty (c .before .before .before .before
 
 returns : tie.Need-returns
 returns c =
-    let b = c .before .before .before .before .before .before .args .plan .now in
+    let b = c .before .before .before .before .before .before .before .args .plan .now in
     let found = c .before .enum-told .given in
-    let e = refused-early b (found .0 .0) (read-refused b (found .0 .0) (ap (λ (r : PatternRead). r .reading .outcome) (sym (c .before .before .before .before .read-pattern .ensures)) ∙ found .1)) in
+    let e = refused-early b (found .0 .0) (read-refused b (found .0 .0) (ap (λ (r : PatternRead). r .reading .outcome) (sym (c .before .before .before .before .read-pattern .ensures .0)) ∙ found .1)) in
     record { bytes = sym (part-is b (some (found .0 .0)) e); block = refl; offset = omega (arith, start-is b (some (found .0 .0)) e) }
 
 returns-2 : tie.Need-returns-2

@@ -26,13 +26,13 @@ use Rattle.pattern.proofs.read_pattern.Tie as tie
 
 -- the bytes, and what the reader of the plan said of them, where it has no refusal
 abbrev bytes : tie.After-enum-told → List ℕ
-bytes c = c .before .before .before .before .args .plan .now
+bytes c = c .before .before .before .before .before .args .plan .now
 
 passed : (c : tie.After-enum-told) → first order (bytes c) ≡ none
-passed c = order-accepted (bytes c) (ap (λ (r : Reading). r .outcome) (sym (c .before .before .read-plan .ensures)) ∙ c .enum-told .given .1)
+passed c = order-accepted (bytes c) (ap (λ (r : Reading). r .outcome) (sym (c .before .before .read-plan .ensures .0)) ∙ c .enum-told .given .1)
 
 plan-read : (c : tie.After-enum-told) → c .before .before .read-plan .result ≡ plan.accepted (bytes c)
-plan-read c = c .before .before .read-plan .ensures ∙ reading-is (bytes c) none (passed c)
+plan-read c = c .before .before .read-plan .ensures .0 ∙ reading-is (bytes c) none (passed c)
 
 starts : (c : tie.After-enum-told) → c .before .before .read-plan .result .pattern ≤ length (bytes c)
 starts c = let e : c .before .before .read-plan .result .pattern ≡ patternAt (headOf (bytes c)) = ap (λ (r : Reading). r .pattern) (plan-read c) in omega (arith, pattern-there (bytes c) (passed c))
@@ -82,10 +82,10 @@ enum-told-2 c = search needs
 
 returns : tie.Need-returns
 returns c =
-    let b = c .before .before .before .before .before .before .args .plan .now in
+    let b = c .before .before .before .before .before .before .before .args .plan .now in
     let found = c .before .before .found .given in
-    let refused = order-refused b (found .0 .0) (ap (λ (r : Reading). r .outcome) (sym (c .before .before .before .before .read-plan .ensures)) ∙ found .1) in
-    c .turned-down .ensures ∙ sym (answer-order b (found .0 .0) refused)
+    let refused = order-refused b (found .0 .0) (ap (λ (r : Reading). r .outcome) (sym (c .before .before .before .before .read-plan .ensures .0)) ∙ found .1) in
+    (c .turned-down .ensures ∙ sym (answer-order b (found .0 .0) refused), c .before .before .before .before .read-plan .ensures .1)
 
 returns-2 : tie.Need-returns-2
 returns-2 c =
@@ -93,7 +93,7 @@ returns-2 c =
     let e = r .before .before .before in
     let found = c .before .before .items-found .given in
     let refused = items-refused (rest (bytes e)) _ _ (found .0 .0) (ap (λ (x : ItemsRead). x .outcome) (sym (items-found r)) ∙ found .1) in
-    c .turned-down2 .ensures ∙ sym (answer-items (bytes e) (passed e) (found .0 .0) refused)
+    (c .turned-down2 .ensures ∙ sym (answer-items (bytes e) (passed e) (found .0 .0) refused), e .before .before .read-plan .ensures .1)
 
 returns-3 : tie.Need-returns-3
 returns-3 c =
@@ -102,7 +102,7 @@ returns-3 c =
     let fine = items-accepted (rest (bytes e)) (planOf (bytes e) .alphabet) (planOf (bytes e) .items) (ap (λ (x : ItemsRead). x .outcome) (sym (items-found r)) ∙ c .before .enum-told2 .given .1) in
     let read = items-found r ∙ items-read (rest (bytes e)) (planOf (bytes e) .alphabet) (planOf (bytes e) .items) fine in
     let whole : _≡_ {A = PatternRead} (record { reading = e .before .before .read-plan .result; items = r .read-items .result .items }) (accepted (bytes e)) = λ i. record { reading = plan-read e i; items = read i .items } in
-    whole ∙ sym (answer-none (bytes e) (passed e) fine)
+    (whole ∙ sym (answer-none (bytes e) (passed e) fine), e .before .before .read-plan .ensures .1)
 
 pub read-pattern-spec : {M : Type 1} → statement M
 read-pattern-spec =
