@@ -3,4 +3,3 @@ pub mod Work
 pub mod Exact
 pub mod Evaluate
 pub mod Cases
-pub mod Lending

@@ -64,7 +64,7 @@ fn few_states(items: Items, alphabet: u32) -> bool
     requires { ⌜ Postfix items ⌝ }
     ensures { λ r. ⌜ r ≡ not (overLimit (statesOf (patternOf (itemsOn items)) alphabet)) ⌝ }
 {
-    let p = positions::positions_of(items);
+    let p = positions::positions_of(items.count, &items.kind, &items.set);
     let s = automaton::states_of(p.count, &p.after, &p.holding, alphabet);
     s.fits
 }

@@ -1,5 +1,4 @@
 // The positions of a pattern, built item by item: what may follow each, and which hold each event.
-use items::Items;
 ghost use mathlib.Core.Path.{_≡_};
 ghost use mathlib.Core.Bool.{cond};
 ghost use Prim.Native.Nat.{ℕ};
@@ -9,7 +8,7 @@ ghost use Rattle.regex.specs.Items.{empty, events, sequence, choice, repeat, pa
 ghost use Rattle.item.specs.Faults.{itemOf};
 ghost use Rattle.items.specs.Tables.{itemsOn};
 ghost use Rattle.items.specs.Postfix.{Postfix};
-ghost use Rattle.positions.specs.Tables.{positionTable};
+ghost use Rattle.positions.specs.Tables.{lentItems, positionTable};
 ghost use Rattle.positions.specs.Making.{nothing, made, gains};
 
 // The positions of a pattern: 0 is the beginning.
@@ -158,11 +157,10 @@ fn take_item(kind: u8, set: u32, at: u64, older: Operand, newer: Operand) -> Mad
 
 // The positions of the pattern that the items build. The operands stand in an array, the newest at the place `depth - 1`; an
 // item's own takes the place of the oldest that it takes. At last what begins the one operand left follows the beginning.
-pub fn positions_of(items: Items) -> Positions
-    requires { ⌜ Postfix items ⌝ }
-    ensures { λ r. ⌜ r ≡ positionTable (patternOf (itemsOn items)) ⌝ }
+pub fn positions_of<'a>(total: usize, kinds: &'a [u8; 64], sets: &'a [u32; 64]) -> Positions
+    requires { ⌜ Postfix (lentItems total (now kinds) (now sets)) ⌝ }
+    ensures { λ r. ⌜ r ≡ positionTable (patternOf (itemsOn (lentItems total (now (kinds .entry)) (now (sets .entry))))) ⌝ }
 {
-    let total = items.count;
     let mut operands = [Operand {
         null: false,
         first: 0,
@@ -174,12 +172,12 @@ pub fn positions_of(items: Items) -> Positions
     let mut holding = [0u64; 33];
     let mut i: usize = 0;
     while i < total {
-        let kind = items.kind[i];
+        let kind = kinds[i];
         let base = depth - item::arity_of(kind);
         let at = masks::with_state(0, count as u32);
         let older = operands[base];
         let newer = operands[base + 1];
-        let made = take_item(kind, items.set[i], at, older, newer);
+        let made = take_item(kind, sets[i], at, older, newer);
         operands[base] = Operand {
             null: made.null,
             first: made.first,

@@ -10,12 +10,13 @@ use Rattle.grammar.specs.Grammar.{Tree, Reading}
 use Rattle.verdict.specs.declared.Answer.{Answer}
 use Rattle.verdict.specs.declared.Answer.the-variants.{Refused, Verified, Inconclusive}
 use Rattle.verdict.specs.Answer.{refusalOf}
+use Rattle.verdict.specs.Told.{numberOf, valuesIn}
 use Rattle.verifier.specs.Order.{Pattern, own, typed, judgeable}
 use Rattle.verifier.specs.Judged.{Promise, Judged, JudgedText}
 use Rattle.verifier.proofs.Unique.{Determined, judged-unique}
 use Rattle.verifier.proofs.Numbers.{no-refusal-zero}
 use Rattle.typed.proofs.Unique.{by-reading, typed-unique}
-use Rattle.traceflow.specs.Exported.{numberOf, valuesIn, Exported}
+use Rattle.traceflow.specs.Exported.{Exported}
 
 -- ---- the number, the row and the lent array are determined by the bytes and by what the two held before
 

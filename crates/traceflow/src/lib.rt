@@ -1,50 +1,9 @@
 // The judge and the pattern part, for programs in C and Rust.
-use verdict::Answer;
-use verdict::Counts;
 ghost use mathlib.Core.Path.{_≡_};
 ghost use Prim.Native.Nat.{_≤_};
 ghost use Rattle.verifier.specs.Order.{own};
 ghost use Rattle.verifier.specs.Judged.{Judged, JudgedText};
-ghost use Rattle.traceflow.specs.Exported.{truth, valuesOf, numberOf, valuesIn, Exported, atEnd, placeOf};
-
-// A truth value as a number.
-fn number(b: bool) -> u64
-    ensures { λ r. ⌜ r ≡ truth b ⌝ }
-{
-    if b { 1 } else { 0 }
-}
-
-// The values of a verdict, in the order in which they are told.
-fn values(verified: bool, c: Counts) -> [u64; 7]
-    ensures { λ r. ⌜ r ≡ valuesOf verified c ⌝ }
-{
-    [
-        number(verified),
-        c.states as u64,
-        c.meetings as u64,
-        c.ordering as u64,
-        c.pairs as u64,
-        c.fill as u64,
-        c.ends,
-    ]
-}
-
-// An answer as a number: that of a refusal, with `counts` as it was; or 0, with the values of the verdict in `counts`.
-fn tell(answer: Answer, counts: &mut [u64; 7]) -> u32
-    ensures { λ r. ⌜ (r ≡ numberOf answer) × (now (counts .exit) ≡ valuesIn answer (now (counts .entry))) ⌝ }
-{
-    match answer {
-        Answer::Refused(n) => n,
-        Answer::Verified(c) => {
-            *counts = values(true, c);
-            0
-        }
-        Answer::Inconclusive(c) => {
-            *counts = values(false, c);
-            0
-        }
-    }
-}
+ghost use Rattle.traceflow.specs.Exported.{Exported, atEnd, placeOf};
 
 // The answer to a plan: 0 where it is judged, with the sets in the row and the values of the verdict in `counts`; else the number
 // of the first refusal that applies, with both as they were.
@@ -53,7 +12,7 @@ pub extern "C" fn traceflow_judge(plan: &[u8], row: &mut [u64], counts: &mut [u6
     ensures { λ r. ⌜ Exported (Judged own (now (plan .entry))) (now (row .entry)) (now (counts .entry)) r (now (row .exit)) (now (counts .exit)) ⌝ }
 {
     let answer = verifier::judge(plan, row);
-    tell(answer, counts)
+    verdict::tell(answer, counts)
 }
 
 // The same of a plan that is judged by a text.
@@ -67,7 +26,7 @@ pub extern "C" fn traceflow_judge_text(
     ensures { λ r. ⌜ Exported (JudgedText (now (plan .entry)) (now (text .entry))) (now (row .entry)) (now (counts .entry)) r (now (row .exit)) (now (counts .exit)) ⌝ }
 {
     let answer = typed::judge_text(plan, text, row);
-    tell(answer, counts)
+    verdict::tell(answer, counts)
 }
 
 // The place of a part of `bytes` bytes at the end of `all`: its first byte and its length, 0 and 0 where it has none.

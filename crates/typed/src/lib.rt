@@ -38,7 +38,7 @@ pub fn judge_text(plan: &[u8], text: &[u8], row: &mut [u64]) -> Answer
                         &tables.accepts.from,
                         &tables.accepts.label,
                     );
-                    verifier::settle(tables, owner, edges, items, row)
+                    verifier::settle_tables(tables, owner, edges, items, row)
                 }
             }
         }

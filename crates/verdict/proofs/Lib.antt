@@ -1,5 +1,6 @@
--- Laws of the final set, the verdict and the fill.
+-- Laws of the final set, the verdict, the fill and the row.
 pub mod Final
 pub mod Verified
 pub mod Rounded
+pub mod Copies
 pub mod Cases

@@ -1,2 +1,4 @@
 pub mod Verdict
 pub mod Answer
+pub mod Row
+pub mod Told

@@ -24,10 +24,11 @@ use Rattle.verdict.specs.declared.Answer.{Answer}
 use Rattle.verdict.specs.declared.Answer.the-variants.{Refused}
 use Rattle.verdict.specs.Verdict.{verified}
 use Rattle.verdict.specs.Answer.{verdict}
+use Rattle.verdict.specs.Row.{written}
 use Rattle.verifier.specs.Order.{Pattern, expressionBy, textRefusal, manyStates, shortRow, judgeable}
 use Rattle.verifier.specs.Property.{listed, numbered, states, table, accepting}
 use Rattle.verifier.specs.Judged.{finalSet, countsOf, Answered, Judged}
-use Rattle.verifier.specs.Analysis.{lateRefusal, written}
+use Rattle.verifier.specs.Analysis.{lateRefusal}
 use Rattle.verifier.proofs.Refusals.{in-order, turned-down}
 use Rattle.verifier.proofs.Row.{answered}
 

@@ -2,7 +2,7 @@
 pub mod Refusals
 pub mod Reader
 pub mod Tables
-pub mod Copies
+pub mod Lending
 pub mod Sound
 pub mod Row
 pub mod Parts

@@ -16,8 +16,8 @@ use Rattle.pattern.proofs.few_states.Statement.{statement}
 use Rattle.pattern.proofs.few_states.Tie as tie
 
 -- the positions are those of the pattern
-of : (c : tie.After-positions-of) → Of (patternOf (itemsOn (c .before .args .items))) (c .positions-of .result)
-of c = record { few = pattern-few (c .before .args .items) (c .before .pre); table = c .positions-of .ensures }
+of : (c : tie.After-positions-of) → Of (patternOf (itemsOn (c .before .before .before .before .args .t1))) (c .positions-of .result)
+of c = record { few = pattern-few (c .before .before .before .before .args .t1) (c .before .before .before .before .pre); table = c .positions-of .ensures }
 
 fits-is : (o : Option (List ℕ)) → stateTable o .fits ≡ not (overLimit o)
 fits-is none = refl
@@ -31,8 +31,8 @@ states-of-requires c κs = (_, (_, of (c .before .before .before)))
 
 returns : tie.Need-returns
 returns c =
-    let r = patternOf (itemsOn (c .before .before .before .before .before .args .items)) in
-    ap (λ (s : States). s .fits) (c .states-of .ensures r _ (of (c .before .before .before .before))) ∙ fits-is (statesOf r (c .before .before .before .before .before .args .alphabet))
+    let r = patternOf (itemsOn (c .before .before .before .before .before .before .before .before .args .t1)) in
+    ap (λ (s : States). s .fits) (c .states-of .ensures r _ (of (c .before .before .before .before))) ∙ fits-is (statesOf r (c .before .before .before .before .before .before .before .before .args .alphabet))
 
 pub few-states-spec : {M : Type 1} → statement M
 few-states-spec = tie.close (tie.spec positions-of-requires states-of-requires returns)

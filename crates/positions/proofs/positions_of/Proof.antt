@@ -9,7 +9,9 @@ use Rattle.rows.specs.Rows.{row, place}
 use Rattle.regex.specs.Expression.{Expression}
 use Rattle.regex.specs.Items.{arity, patternOf}
 use Rattle.item.proofs.Faults.{arity-set}
+use Rattle.items.specs.declared.Items.{Items}
 use Rattle.items.specs.Tables.{itemOn, itemsOn}
+use Rattle.positions.specs.Tables.{lentItems}
 use Rattle.positions.proofs.Items.{Draft, DraftOf, draft-depth, item-taken, size-few}
 use Rattle.positions.proofs.Arrays.{listed-none}
 use Rattle.positions.proofs.Whole.{table-made, sole, behind, behind-none, behind-more, behind-few, free-few}
@@ -17,12 +19,16 @@ use Rattle.positions.proofs.positions_of.Statement.{statement}
 use Rattle.positions.proofs.positions_of.Tie as tie
 
 abbrev Inv-loop : tie.InvT-loop
-Inv-loop items total operands₀ depth₀ count₀ after₀ holding₀ i₀ operands depth count after holding i =
-    (i ≤ total) × DraftOf (behind items i) (record { operands = operands; depth = depth; count = count; after = after; holding = holding })
+Inv-loop total kinds sets operands₀ depth₀ count₀ after₀ holding₀ i₀ operands depth count after holding i =
+    (i ≤ total) × DraftOf (behind (lentItems total kinds sets) i) (record { operands = operands; depth = depth; count = count; after = after; holding = holding })
 
 abbrev μ-loop : tie.MeasureT-loop
-μ-loop items total operands₀ depth₀ count₀ after₀ holding₀ i₀ operands depth count after holding i =
+μ-loop total kinds sets operands₀ depth₀ count₀ after₀ holding₀ i₀ operands depth count after holding i =
     total - i
+
+-- the items
+abbrev given : tie.Start Inv-loop μ-loop → Items
+given c = lentItems (c .args .total) (c .args .kinds .now) (c .args .sets .now)
 
 -- the draft before a turn
 abbrev draft : tie.At-loop Inv-loop μ-loop → Draft
@@ -32,19 +38,19 @@ draft c =
 
 -- what is known of it in the turn
 facts : (c : tie.In-loop Inv-loop μ-loop)
-    → (c .before .loop .depth < 64) × (arity (itemOn (c .before .before .args .t1) (c .before .loop .i)) ≤ c .before .loop .depth) × (c .before .loop .count ≤ 33)
+    → (c .before .loop .depth < 64) × (arity (itemOn (given (c .before .before)) (c .before .loop .i)) ≤ c .before .loop .depth) × (c .before .loop .count ≤ 33)
 facts c =
     let start = c .before .before in
     let loop = c .before .loop in
-    let depth = draft-depth (behind (start .args .t1) (loop .i)) (draft (c .before)) (loop .inv .1) in (
-      omega (arith, depth, behind-few (start .args .t1) (loop .i) (start .pre) (omega arith), start .pre .few),
+    let depth = draft-depth (behind (given start) (loop .i)) (draft (c .before)) (loop .inv .1) in (
+      omega (arith, depth, behind-few (given start) (loop .i) (start .pre) (omega arith), start .pre .few),
       rw depth (start .pre .enough (loop .i) (omega arith)),
-      rw (loop .inv .1 .count) (free-few (start .args .t1) (loop .i) (start .pre) (omega arith)),
+      rw (loop .inv .1 .count) (free-few (given start) (loop .i) (start .pre) (omega arith)),
     )
 
 loop-holds : tie.Need-loop-holds Inv-loop μ-loop
 unfolding row
-loop-holds c = (omega arith, rw (behind-none (c .args .t1)) (record { places = refl; stack = listed-none _; count = refl; after = refl; holding = refl }))
+loop-holds c = (omega arith, rw (behind-none (given c)) (record { places = refl; stack = listed-none _; count = refl; after = refl; holding = refl }))
 
 element-copy-out-kind : tie.Need-element-copy-out-kind Inv-loop μ-loop
 element-copy-out-kind c = omega arith
@@ -55,7 +61,7 @@ arity-of-requires c κs = tt
 sub-base : tie.Need-sub-base Inv-loop μ-loop
 sub-base c =
     let inside = c .before .before in
-    rw (c .arity-of .ensures .0, ← (arity-set _ (place (inside .before .before .args .t1 .set) (inside .before .loop .i)))) (facts inside .1)
+    rw (c .arity-of .ensures .0, ← (arity-set _ (place (given (inside .before .before) .set) (inside .before .loop .i)))) (facts inside .1)
 
 cast-with-state : tie.Need-cast-with-state Inv-loop μ-loop
 cast-with-state c = omega (arith, facts (c .before .before) .2)
@@ -100,7 +106,7 @@ add-count : tie.Need-add-count Inv-loop μ-loop
 add-count c =
     let inside = c .before .before .before .before .before .before .before .before in
     let few : c .before .take-item .result .size ≤ 1 =
-    rw (c .before .take-item .ensures) (size-few (itemOn (inside .before .before .args .t1) (inside .before .loop .i)) _ _ _) in
+    rw (c .before .take-item .ensures) (size-few (itemOn (given (inside .before .before)) (inside .before .loop .i)) _ _ _) in
     omega (arith, facts inside .2)
 
 gain-requires : tie.Need-gain-requires Inv-loop μ-loop
@@ -122,7 +128,7 @@ loop-again c =
     let counted = placed .before in
     let inside = counted .before .before in
     let start = inside .before .before in
-    let t = start .args .t1 in
+    let t = given start in
     let loop = inside .before .loop in
     let n = ap (λ (k : ℕ). loop .depth - k) (counted .arity-of .ensures .0 ∙ sym (arity-set (place (t .kind) (loop .i)) (place (t .set) (loop .i)))) in (
       omega arith,
@@ -144,8 +150,8 @@ returns : tie.Need-returns Inv-loop μ-loop
 returns c =
     let end = c .before .before .before .before in
     let start = end .before in
-    let t = start .args .t1 in
-    let e : c .before .before .before .before .loop .i ≡ c .before .before .before .before .before .args .t1 .count = omega arith in
+    let t = given start in
+    let e : c .before .before .before .before .loop .i ≡ c .before .before .before .before .before .args .total = omega arith in
     let one : behind t (end .loop .i) ≡ patternOf (itemsOn t) ∷ [] = ap (behind t) e ∙ sole (behind t (t .count)) (start .pre .one) in
     table-made (draft end) (patternOf (itemsOn t)) (c .before .only .result) (c .before .only .ensures)
     (subst (λ (st : List Expression). DraftOf st (draft end)) one (end .loop .inv .1))

@@ -79,8 +79,8 @@ edges-of-requires c κs =
     record { ample = f .ample; steps = f .steps; calls = f .calls; accepts = f .accepts; step-labels = f .step-labels; call-labels = f .call-labels; events = f .events }
 
 -- both tables of items are postfix: which of them is judged is left to the promise
-settle-requires : tie.Need-settle-requires
-settle-requires c κs =
+settle-tables-requires : tie.Need-settle-tables-requires
+settle-tables-requires c κs =
     let t = c .before .before .before .before .before .before .before .before .before .before .before .before .before .before .before .before .before in
     let e = t .before in
     let typed-items = text-postfix (text-bytes t) _ (t .read-text .result) (told t) (c .before .before .before .before .before .before .before .before .before .before .before .before .before .before .before .enum-told2 .given .1) in
@@ -131,7 +131,7 @@ returns-3 c =
     record {
       tree = told t .tree;
       reading = told t .reading;
-      judged = judged-late (typed w (told t .tree)) b _ (passed e) free _ pattern _ _ (settled .settle .ensures (planOf b) (kept e) (settled .before .before .edges-of .ensures ∙ counts-kept (kept e)));
+      judged = judged-late (typed w (told t .tree)) b _ (passed e) free _ pattern _ _ (settled .settle-tables .ensures (planOf b) (kept e) (settled .before .before .edges-of .ensures ∙ counts-kept (kept e)));
     }
 
 pub judge-text-spec : {M : Type 1} → statement M
@@ -145,7 +145,7 @@ judge-text-spec =
     enum-known-typed-found
     enum-told-2
     edges-of-requires
-    settle-requires
+    settle-tables-requires
     returns
     returns-2
     same-length
