@@ -8,7 +8,8 @@ ghost use Rattle.verifier.specs.Judged.{JudgedText};
 pub fn judge_text(plan: &[u8], text: &[u8], row: &mut [u64]) -> Answer
     ensures { λ a. ⌜ JudgedText (now (plan .entry)) (now (text .entry)) (now (row .entry)) a (now (row .exit)) ⌝ }
 {
-    let read = pattern::read_pattern(plan);
+    let mut words = [0u32; 512];
+    let read = pattern::read_pattern(plan, &mut words);
     let reading = read.reading;
     let found = reading.outcome;
     match found {
@@ -20,25 +21,15 @@ pub fn judge_text(plan: &[u8], text: &[u8], row: &mut [u64]) -> Answer
                 Outcome::Refused(m) => Answer::Refused(m),
                 Outcome::Accepted => {
                     let items = typed.items;
-                    let tables = reading.plan;
-                    let owner = reading.owner;
-                    let edges = edges::edges_of(
-                        tables.nodes,
-                        &tables.jobs.size,
-                        &owner,
-                        tables.alphabet,
-                        &tables.channels.event,
-                        tables.steps.count,
-                        &tables.steps.from,
-                        &tables.steps.label,
-                        tables.calls.count,
-                        &tables.calls.from,
-                        &tables.calls.label,
-                        tables.accepts.count,
-                        &tables.accepts.from,
-                        &tables.accepts.label,
-                    );
-                    verifier::settle_tables(tables, owner, edges, items, row)
+                    verifier::settle_plan(
+                        reading.plan,
+                        &words,
+                        &reading.owner,
+                        items.count,
+                        &items.kind,
+                        &items.set,
+                        row,
+                    )
                 }
             }
         }

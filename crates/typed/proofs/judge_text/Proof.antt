@@ -5,17 +5,16 @@ use mathlib.Core.Option.{none}
 use Prim.Native.Nat.{ℕ}
 use Rattle.sections.specs.Layout.{planOf}
 use Rattle.plan.specs.Checks.{first}
-use Rattle.plan.specs.Legal.{Keeps}
 use Rattle.items.specs.Postfix.{Postfix}
 use Rattle.grammar.proofs.Every.{every-text}
-use Rattle.edges.proofs.Kept.{fits, counts-kept}
 use Rattle.pattern.specs.declared.PatternRead.{PatternRead}
 use Rattle.pattern.specs.Refusals.{readable}
 use Rattle.pattern.proofs.Part.{plan-postfix}
 use Rattle.text.specs.Typed.{Typed}
 use Rattle.verifier.specs.Order.{typed, expressionBy}
 use Rattle.verifier.proofs.Refusals.{refused-early, refused-text, judged-late, turned-down}
-use Rattle.verifier.proofs.Reader.{refused-by-reader, passed-reader, all-read, plan-kept}
+use Rattle.verifier.specs.Analysis.{Reads}
+use Rattle.verifier.proofs.Reader.{refused-by-reader, passed-reader, all-read, plan-read}
 use Rattle.typed.proofs.Reader.{refused-by-text, passed-text, text-postfix, text-pattern}
 use borrow.Author.Needs.{needs}
 use Rattle.typed.proofs.judge_text.Statement.{statement}
@@ -23,34 +22,36 @@ use Rattle.typed.proofs.judge_text.Tie as tie
 
 -- the bytes of the plan, and what its reader said of them, where it has no refusal
 abbrev bytes : tie.After-enum-told → List ℕ
-bytes c = c .before .before .before .before .before .before .before .args .plan .now
+bytes c = c .before .before .before .before .before .before .before .before .args .plan .now
 
 abbrev found : tie.After-enum-told → PatternRead
 found c = c .before .before .before .read-pattern .result
 
 passed : (c : tie.After-enum-told) → first readable (bytes c) ≡ none
-passed c = passed-reader (bytes c) (found c) (c .before .before .before .read-pattern .ensures) (c .enum-told .given .1)
+passed c = passed-reader (bytes c) (found c) (c .before .before .before .read-pattern .ensures .0) (c .enum-told .given .1)
 
-kept : (c : tie.After-enum-told) → Keeps (planOf (bytes c)) (found c .reading .plan) (found c .reading .owner)
-kept c = plan-kept (bytes c) (found c) (c .before .before .before .read-pattern .ensures) (c .enum-told .given .1)
+kept : (c : tie.After-enum-told) → Reads (planOf (bytes c)) (found c .reading .plan) (c .before .before .before .read-pattern .last .1 .0) (found c .reading .owner)
+kept c =
+    let read = c .before .before .before .read-pattern in
+    plan-read (bytes c) (found c) (read .ensures .0) (c .enum-told .given .1) _ _ (read .ensures .1)
 
 items-postfix : (c : tie.After-enum-told) → Postfix (found c .items)
 items-postfix c =
     subst (λ (r : PatternRead). Postfix (r .items))
-    (sym (all-read (bytes c) (found c) (c .before .before .before .read-pattern .ensures) (c .enum-told .given .1)))
+    (sym (all-read (bytes c) (found c) (c .before .before .before .read-pattern .ensures .0) (c .enum-told .given .1)))
     (plan-postfix (bytes c) (passed c))
 
 alphabet : (c : tie.After-enum-told) → found c .reading .plan .alphabet ≡ planOf (bytes c) .alphabet
 alphabet c =
     ap (λ (r : PatternRead). r .reading .plan .alphabet)
-    (all-read (bytes c) (found c) (c .before .before .before .read-pattern .ensures) (c .enum-told .given .1))
+    (all-read (bytes c) (found c) (c .before .before .before .read-pattern .ensures .0) (c .enum-told .given .1))
 
 -- the bytes of the text, and what its reader said of them
 abbrev plan-bytes : tie.After-read-text → List ℕ
 plan-bytes c = bytes (c .before)
 
 abbrev text-bytes : tie.After-read-text → List ℕ
-text-bytes c = c .before .before .before .before .before .before .before .before .args .text .now
+text-bytes c = c .before .before .before .before .before .before .before .before .before .args .text .now
 
 told : (c : tie.After-read-text) → Typed (text-bytes c) (planOf (plan-bytes c) .alphabet) (c .read-text .result)
 told c = subst (λ (a : ℕ). Typed (text-bytes c) a (c .read-text .result)) (alphabet (c .before)) (c .read-text .ensures)
@@ -73,27 +74,23 @@ enum-known-typed-found c = search needs
 enum-told-2 : tie.Need-enum-told-2
 enum-told-2 c = search needs
 
-edges-of-requires : tie.Need-edges-of-requires
-edges-of-requires c κs =
-    let f = fits (kept (c .before .before .before .before .before .before .before .before .before .before .before .before .before .before .before .before)) in
-    record { ample = f .ample; steps = f .steps; calls = f .calls; accepts = f .accepts; step-labels = f .step-labels; call-labels = f .call-labels; events = f .events }
-
 -- both tables of items are postfix: which of them is judged is left to the promise
-settle-tables-requires : tie.Need-settle-tables-requires
-settle-tables-requires c κs =
-    let t = c .before .before .before .before .before .before .before .before .before .before .before .before .before .before .before .before .before in
+settle-plan-requires : tie.Need-settle-plan-requires
+settle-plan-requires c κs =
+    let told2 = c .before .before .before .before .before .before .before .before .before in
+    let t = told2 .before .before in
     let e = t .before in
-    let typed-items = text-postfix (text-bytes t) _ (t .read-text .result) (told t) (c .before .before .before .before .before .before .before .before .before .before .before .before .before .before .before .enum-told2 .given .1) in
+    let typed-items = text-postfix (text-bytes t) _ (t .read-text .result) (told t) (told2 .enum-told2 .given .1) in
     let own-items = items-postfix e in
     ((planOf (bytes e), kept e), search (typed-items, own-items))
 
 returns : tie.Need-returns
 returns c =
-    let args = c .before .before .before .before .before .before .before .before .args in
+    let args = c .before .before .before .before .before .before .before .before .before .args in
     let b = args .plan .now in
     let w = args .text .now in
     let refusal = c .before .found .given in
-    let early = refused-by-reader b _ (c .before .before .before .before .read-pattern .ensures) (refusal .0 .0) (refusal .1) in
+    let early = refused-by-reader b _ (c .before .before .before .before .read-pattern .ensures .0) (refusal .0 .0) (refusal .1) in
     let (o, d) = every-text w in
     record {
       tree = o;
@@ -121,17 +118,18 @@ same-length c = search needs
 returns-3 : tie.Need-returns-3
 returns-3 c =
     let settled = c .before .before in
-    let t = settled .before .before .before .before .before .before .before .before .before .before .before .before .before .before .before .before .before .before in
+    let told2 = settled .before .before .before .before .before .before .before .before .before .before in
+    let t = told2 .before .before in
     let e = t .before in
     let b = plan-bytes t in
     let w = text-bytes t in
-    let fine = settled .before .before .before .before .before .before .before .before .before .before .before .before .before .before .before .before .enum-told2 .given .1 in
+    let fine = told2 .enum-told2 .given .1 in
     let free = passed-text w _ (t .read-text .result) (told t) fine in
     let pattern = text-pattern w _ (t .read-text .result) (told t) fine in
     record {
       tree = told t .tree;
       reading = told t .reading;
-      judged = judged-late (typed w (told t .tree)) b _ (passed e) free _ pattern _ _ (settled .settle-tables .ensures (planOf b) (kept e) (settled .before .before .edges-of .ensures ∙ counts-kept (kept e)));
+      judged = judged-late (typed w (told t .tree)) b _ (passed e) free _ pattern _ _ (settled .settle-plan .ensures (planOf b) (kept e));
     }
 
 pub judge-text-spec : {M : Type 1} → statement M
@@ -144,8 +142,7 @@ judge-text-spec =
     read-text-requires
     enum-known-typed-found
     enum-told-2
-    edges-of-requires
-    settle-tables-requires
+    settle-plan-requires
     returns
     returns-2
     same-length
