@@ -1,5 +1,2 @@
-pub mod Bounds
+-- Laws of the work on the sets.
 pub mod Work
-pub mod Exact
-pub mod Evaluate
-pub mod Cases

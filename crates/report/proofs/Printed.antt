@@ -13,12 +13,11 @@ use Rattle.plan.proofs.Legality.{legal}
 use Rattle.pattern.specs.Refusals.{readable, tooManyStates, acceptable}
 use Rattle.pattern.proofs.Part.{before-items}
 use Rattle.verdict.specs.declared.Answer.{Answer}
-use Rattle.verifier.specs.Order.{Pattern, own, expressionBy, textRefusal, manyStates, judgeable}
-use Rattle.verifier.specs.Judged.{Promise, Judged, JudgedText}
-use Rattle.verifier.specs.Analysis.{lateRefusal}
-use Rattle.verifier.proofs.Refusals.{in-order}
-use Rattle.verifier.proofs.Unique.{Determined, judged-unique}
-use Rattle.typed.proofs.Unique.{typed-unique}
+use Rattle.promises.specs.Order.{Pattern, own, expressionBy, textRefusal, manyStates, judgeable, lateRefusal}
+use Rattle.promises.specs.Judged.{Promise, Judged, JudgedText}
+use Rattle.promises.proofs.Refusals.{in-order}
+use Rattle.promises.proofs.Unique.{Determined, judged-unique}
+use Rattle.promises.proofs.TextUnique.{typed-unique}
 use Rattle.line.specs.declared.Line.{Line}
 use Rattle.line.specs.Line.{lineOf}
 use Rattle.line.specs.Array.{lineArray}

@@ -4,7 +4,7 @@ use mathlib.Core.List.{List}
 use Prim.Native.Nat.{ℕ, _≤_}
 use lib.ListN.{replicate}
 use Rattle.verdict.specs.declared.Answer.{Answer}
-use Rattle.verifier.specs.Judged.{Promise}
+use Rattle.promises.specs.Judged.{Promise}
 use Rattle.line.specs.declared.Line.{Line}
 use Rattle.line.specs.Line.{lineOf}
 use Rattle.line.specs.Array.{lineArray}

@@ -1,7 +1,7 @@
 // From the bytes of a plan, and of a text, to the line that tells the answer.
 use line::Line;
-ghost use Rattle.verifier.specs.Order.{own};
-ghost use Rattle.verifier.specs.Judged.{Judged, JudgedText};
+ghost use Rattle.promises.specs.Order.{own};
+ghost use Rattle.promises.specs.Judged.{Judged, JudgedText};
 ghost use Rattle.report.specs.Reports.{Reports};
 
 // The line of the answer to a plan, for which a row of 256 places is lent.

@@ -1,8 +1,8 @@
 // The judge and the pattern part, for programs in C and Rust.
 ghost use mathlib.Core.Path.{_≡_};
 ghost use Prim.Native.Nat.{_≤_};
-ghost use Rattle.verifier.specs.Order.{own};
-ghost use Rattle.verifier.specs.Judged.{Judged, JudgedText};
+ghost use Rattle.promises.specs.Order.{own};
+ghost use Rattle.promises.specs.Judged.{Judged, JudgedText};
 ghost use Rattle.traceflow.specs.Exported.{Exported, atEnd, placeOf};
 
 // The answer to a plan: 0 where it is judged, with the sets in the row and the values of the verdict in `counts`; else the number

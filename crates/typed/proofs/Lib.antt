@@ -1,5 +1,4 @@
 -- Laws of the judge of typed patterns.
 pub mod Postfix
 pub mod Reader
-pub mod Unique
-pub mod Same
+pub mod Read

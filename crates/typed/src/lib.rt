@@ -1,7 +1,7 @@
 // The judge of a plan whose pattern was typed.
 use plan::Outcome;
 use verdict::Answer;
-ghost use Rattle.verifier.specs.Judged.{JudgedText};
+ghost use Rattle.promises.specs.Judged.{JudgedText};
 
 // The answer to a plan that is judged by a text, whatever the bytes of both: the first refusal that applies, and the row as it was;
 // or the verdict under the pattern of the text, and in the first places of the row the set of each node.
@@ -21,7 +21,7 @@ pub fn judge_text(plan: &[u8], text: &[u8], row: &mut [u64]) -> Answer
                 Outcome::Refused(m) => Answer::Refused(m),
                 Outcome::Accepted => {
                     let items = typed.items;
-                    verifier::settle_plan(
+                    analysis::settle_plan(
                         reading.plan,
                         &words,
                         &reading.owner,

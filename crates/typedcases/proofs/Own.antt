@@ -21,9 +21,9 @@ use Rattle.grammar.proofs.Evaluate.{run}
 use Rattle.pattern.specs.Refusals.{itemsOfPlan}
 use Rattle.pattern.proofs.Cases.{two-jobs, distance}
 use Rattle.verdict.specs.declared.Answer.{Answer}
-use Rattle.verifier.specs.Order.{own}
-use Rattle.verifier.specs.Judged.{Judged, JudgedText}
-use Rattle.typed.proofs.Same.{same-items}
+use Rattle.promises.specs.Order.{own}
+use Rattle.promises.specs.Judged.{Judged, JudgedText}
+use Rattle.promises.proofs.SameItems.{same-items}
 use Rattle.typedcases.proofs.Readings.{readWithin, read-within}
 use Rattle.typedcases.proofs.Plans.{late}
 

@@ -33,10 +33,10 @@ use Rattle.verdict.specs.declared.Counts.{Counts}
 use Rattle.verdict.specs.declared.Answer.{Answer}
 use Rattle.verdict.specs.declared.Answer.the-variants.{Refused, Verified, Inconclusive}
 use Rattle.verdict.specs.Verdict.{finalBelow, rounded}
-use Rattle.verifier.specs.Order.{typed}
-use Rattle.verifier.specs.Judged.{JudgedText}
-use Rattle.verifier.proofs.Evaluate.{Outcome, evaluate, evaluate-judged}
-use Rattle.typed.proofs.Unique.{typed-unique}
+use Rattle.promises.specs.Order.{typed}
+use Rattle.promises.specs.Judged.{JudgedText}
+use Rattle.promises.proofs.Evaluate.{Outcome, evaluate, evaluate-judged}
+use Rattle.promises.proofs.TextUnique.{typed-unique}
 use Rattle.typedcases.proofs.Readings.{readWithin, read-within}
 use Rattle.typedcases.proofs.Items.{more}
 

@@ -11,10 +11,10 @@ use Rattle.pattern.specs.declared.PatternRead.{PatternRead}
 use Rattle.pattern.specs.Refusals.{readable}
 use Rattle.pattern.proofs.Part.{plan-postfix}
 use Rattle.text.specs.Typed.{Typed}
-use Rattle.verifier.specs.Order.{typed, expressionBy}
-use Rattle.verifier.proofs.Refusals.{refused-early, refused-text, judged-late, turned-down}
-use Rattle.verifier.specs.Analysis.{Reads}
-use Rattle.verifier.proofs.Reader.{refused-by-reader, passed-reader, all-read, plan-read}
+use Rattle.promises.specs.Order.{typed, expressionBy}
+use Rattle.promises.proofs.Refusals.{refused-early, refused-text, judged-late, turned-down}
+use Rattle.analysis.specs.Analysis.{Reads}
+use Rattle.typed.proofs.Read.{refused-by-reader, passed-reader, all-read, plan-read}
 use Rattle.typed.proofs.Reader.{refused-by-text, passed-text, text-postfix, text-pattern}
 use borrow.Author.Needs.{needs}
 use Rattle.typed.proofs.judge_text.Statement.{statement}

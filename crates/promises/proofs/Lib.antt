@@ -1,0 +1,11 @@
+-- Laws of what the judges promise.
+pub mod Refusals
+pub mod Sound
+pub mod Row
+pub mod Unique
+pub mod TextUnique
+pub mod SameItems
+pub mod Numbers
+pub mod Evaluate
+pub mod Narrower
+pub mod Cases

@@ -1,4 +1,0 @@
-pub mod Order
-pub mod Property
-pub mod Judged
-pub mod Analysis
