@@ -3,7 +3,5 @@ pub mod Moves
 pub mod Watched
 pub mod Growth
 pub mod Turns
-pub mod Entries
-pub mod Filling
 pub mod Accepting
 pub mod Language

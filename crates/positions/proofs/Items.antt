@@ -29,7 +29,7 @@ pub record Draft : Type 0 where
 
 -- d is what the items build that leave the operands st
 pub record DraftOf (st : List Expression) (d : Draft) : Type 0 where
-  pub places : length (d .operands) ≡ 65
+  pub places : length (d .operands) ≡ 34
   pub stack : listed (d .operands) (d .depth) ≡ masks st
   pub count : d .count ≡ free st
   pub after : d .after ≡ row 33 (follows st)
@@ -68,9 +68,9 @@ laid n at m d = record {
 abbrev takes : Item → Draft → Draft
 takes i d = laid (base i d) (2 ^ d .count) (made i (2 ^ d .count) (operand d (base i d)) (operand d (base i d + 1))) d
 
-module _ (d : Draft) (h : d .depth < 64) where
+module _ (d : Draft) (h : d .depth < 33) where
   module _ (st : List Expression) (b : DraftOf st d) (n : ℕ) (l : n ≤ d .depth) (o : Operand) where
-    places : length (set (d .operands) n o) ≡ 65
+    places : length (set (d .operands) n o) ≡ 34
     places = length-set (d .operands) n o ∙ b .places
 
     pushed : (m : Masks) (ms : List Masks) → operandOf o ≡ m → listed (d .operands) n ≡ ms → listed (set (d .operands) n o) (n + 1) ≡ m ∷ ms

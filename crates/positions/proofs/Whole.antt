@@ -3,7 +3,7 @@ use mathlib.Core.Path.{_≡_, refl, sym, ap, ap₂, _∙_}
 use mathlib.Core.Bool.{cond}
 use mathlib.Core.Logic.{⊎-elim}
 use mathlib.Core.List.{List, [], _∷_}
-use Prim.Native.Nat.{ℕ, zero, suc, _+_, _≤_, _<_}
+use Prim.Native.Nat.{ℕ, zero, suc, _+_, _-_, _≤_, _<_}
 use native.Mathlib.Nat.{le-refl, eq-or-lt-of-le}
 use native.Mathlib.Numerals.{add-one}
 use native.Mathlib.Omega.{arith}
@@ -12,7 +12,7 @@ use lib.ListN.{length, set}
 use Rattle.rows.specs.Rows.{row}
 use Rattle.rows.proofs.Rows.{row-more, row-ext}
 use Rattle.regex.specs.Expression.{Expression}
-use Rattle.regex.specs.Items.{push, operands, newest, patternOf}
+use Rattle.regex.specs.Items.{Item, empty, events, sequence, choice, repeat, arity, push, operands, newest, patternOf}
 use Rattle.regex.specs.Positions.{size, first, after, final}
 use Rattle.regex.proofs.Operands.{push-none, push-more, push-length, free-push, Counted, counted-none, counted-push, counted-free}
 use Rattle.regex.proofs.Stack.{holdings-one}
@@ -64,6 +64,13 @@ sole (e ∷ f ∷ st) h = absurd (omega arith)
 
 -- ---- the operands behind the first items
 
+arity-few : (i : Item) → arity i ≤ 2
+arity-few empty = omega arith
+arity-few (events m) = omega arith
+arity-few sequence = omega arith
+arity-few choice = omega arith
+arity-few repeat = omega arith
+
 module _ (t : Items) where
   -- those of the first i
   abbrev pub behind : ℕ → List Expression
@@ -85,6 +92,19 @@ module _ (t : Items) where
   behind-few (suc i) p h =
       let less = behind-few i p (omega arith) in
       rw (behind-suc i) (omega (arith, push-length (itemOn t i) (behind i) (p .enough i (omega arith))))
+
+  -- each item takes one of them at most
+  behind-left : (i n : ℕ) → Postfix t → n ≤ t .count → i ≤ n → length (behind i) ≤ length (behind n) + (n - i)
+  behind-left i zero p l h = let z : i ≡ 0 = omega arith in rw z (omega arith)
+  behind-left i (suc n) p l h =
+      ⊎-elim
+      (λ (q : i ≡ suc n). rw q (omega arith))
+      (λ (q : i < suc n). rw (behind-suc n) (omega (arith, behind-left i n p (omega arith) (omega arith), push-length (itemOn t n) (behind n) (p .enough n (omega arith)), arity-few (itemOn t n))))
+      (eq-or-lt-of-le h)
+
+  -- one is left at last, so there are never more than half as many as items
+  pub behind-half : (i : ℕ) → Postfix t → i ≤ t .count → length (behind i) ≤ 32
+  behind-half i p h = omega (arith, p .few, p .one, behind-few i p h, behind-left i (t .count) p (omega arith) h)
 
   behind-counted : (i : ℕ) → Postfix t → i ≤ t .count → Counted i (behind i)
   behind-counted zero p h = rw behind-none counted-none

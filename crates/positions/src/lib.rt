@@ -156,7 +156,8 @@ fn take_item(kind: u8, set: u32, at: u64, older: Operand, newer: Operand) -> Mad
 }
 
 // The positions of the pattern that the items build. The operands stand in an array, the newest at the place `depth - 1`; an
-// item's own takes the place of the oldest that it takes. At last what begins the one operand left follows the beginning.
+// item's own takes the place of the oldest that it takes. They are never more than 32, since the items that are left make one of them. At last
+// what begins the one operand left follows the beginning.
 pub fn positions_of<'a>(total: usize, kinds: &'a [u8; 64], sets: &'a [u32; 64]) -> Positions
     requires { ⌜ Postfix (lentItems total (now kinds) (now sets)) ⌝ }
     ensures { λ r. ⌜ r ≡ positionTable (patternOf (itemsOn (lentItems total (now (kinds .entry)) (now (sets .entry))))) ⌝ }
@@ -165,7 +166,7 @@ pub fn positions_of<'a>(total: usize, kinds: &'a [u8; 64], sets: &'a [u32; 64]) 
         null: false,
         first: 0,
         last: 0,
-    }; 65];
+    }; 34];
     let mut depth: usize = 0;
     let mut count: usize = 1;
     let mut after = [0u64; 33];

@@ -14,7 +14,7 @@ use Rattle.items.specs.Tables.{itemOn, itemsOn}
 use Rattle.positions.specs.Tables.{lentItems}
 use Rattle.positions.proofs.Items.{Draft, DraftOf, draft-depth, item-taken, size-few}
 use Rattle.positions.proofs.Arrays.{listed-none}
-use Rattle.positions.proofs.Whole.{table-made, sole, behind, behind-none, behind-more, behind-few, free-few}
+use Rattle.positions.proofs.Whole.{table-made, sole, behind, behind-none, behind-more, behind-half, free-few}
 use Rattle.positions.proofs.positions_of.Statement.{statement}
 use Rattle.positions.proofs.positions_of.Tie as tie
 
@@ -38,12 +38,12 @@ draft c =
 
 -- what is known of it in the turn
 facts : (c : tie.In-loop Inv-loop μ-loop)
-    → (c .before .loop .depth < 64) × (arity (itemOn (given (c .before .before)) (c .before .loop .i)) ≤ c .before .loop .depth) × (c .before .loop .count ≤ 33)
+    → (c .before .loop .depth < 33) × (arity (itemOn (given (c .before .before)) (c .before .loop .i)) ≤ c .before .loop .depth) × (c .before .loop .count ≤ 33)
 facts c =
     let start = c .before .before in
     let loop = c .before .loop in
     let depth = draft-depth (behind (given start) (loop .i)) (draft (c .before)) (loop .inv .1) in (
-      omega (arith, depth, behind-few (given start) (loop .i) (start .pre) (omega arith), start .pre .few),
+      omega (arith, depth, behind-half (given start) (loop .i) (start .pre) (omega arith)),
       rw depth (start .pre .enough (loop .i) (omega arith)),
       rw (loop .inv .1 .count) (free-few (given start) (loop .i) (start .pre) (omega arith)),
     )
