@@ -1,4 +1,5 @@
-/* Judges plan P and prints its verdict, its sets and where its pattern stands; then judges it by a typed pattern. */
+/* Judges plan P and prints its verdict, its sets and where its pattern stands; then judges it by a typed pattern; and last a plan without
+ * jobs, which needs no place of the row. */
 #include "traceflow.h"
 #include <inttypes.h>
 #include <stdio.h>
@@ -18,6 +19,7 @@ int main(void) {
     static const uint8_t plan[] = {0x08, 0x08, 0x02, 0x00, 0x00, 0x00, 0x06, 0x00, 0x00, 0x00, 0x00,
                                    0x08, 0x00, 0x04, 0x00, 0x04, 0x20, 0x30, 0x00, 0x00, 0x00, 0x00};
     static const uint8_t text[] = {'a', ';', 'a'};
+    static const uint8_t recess[] = {0x00, 0x00, 0x00, 0x00, 0x00, 0x00, 0x04, 0x00, 0x00, 0x00, 0x00, 0x00};
     size_t place[2];
     tell(traceflow_judge(plan, sizeof plan, row, 256, counts));
     traceflow_pattern_part(plan, sizeof plan, place);
@@ -25,5 +27,7 @@ int main(void) {
     printf("by a;a: ");
     tell(traceflow_judge_text(plan, sizeof plan, text, sizeof text, row, 256, counts));
     printf("\n");
+    if (traceflow_judge(recess, sizeof recess, row, 0, counts) == 0)
+        printf("no jobs: %s, final %" PRIx64 "\n", counts[TRACEFLOW_VERIFIED] ? "verified" : "inconclusive", counts[TRACEFLOW_FINAL]);
     return 0;
 }

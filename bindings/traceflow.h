@@ -20,13 +20,13 @@ enum {
     TRACEFLOW_ORDERING,
     TRACEFLOW_PAIRS,
     TRACEFLOW_FILL,
-    TRACEFLOW_FINAL, /* the final set; state s has weight 2^s */
+    TRACEFLOW_FINAL, /* the final set, state 0 where there are no jobs; state s has weight 2^s */
     TRACEFLOW_COUNTS
 };
 
 /* Judges a plan. Returns 0 where it is judged: the first places of the row, one a node, then hold the sets of states, and `counts`
  * the values of the verdict; later places are as they were. Else returns the number of the first refusal that applies, and the row
- * and `counts` are as they were. A row of 256 places is enough for every plan. */
+ * and `counts` are as they were. A row of 256 places is enough for every plan; a plan without jobs needs none. */
 uint32_t traceflow_judge(const uint8_t *plan, size_t plan_bytes,
                          uint64_t *row, size_t row_places,
                          uint64_t counts[TRACEFLOW_COUNTS]);

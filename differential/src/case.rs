@@ -1,10 +1,11 @@
 //! One case of a run: a plan, a text to judge it by, and what is lent with them, made from the seed and the number.
 
-use crate::draft::Item;
+use crate::draft::{Draft, Item};
 use crate::fault_in_bytes::{self, mangle, noise};
 use crate::filled::filled;
 use crate::layout::{alphabet, NODES};
 use crate::random::Random;
+use crate::recess::recess;
 use crate::sound::{any_scale, sound};
 use crate::text::{self, Text};
 use crate::{fault_in_items, fault_in_jobs};
@@ -18,11 +19,16 @@ pub struct Case {
     pub values: Values,
     /// The refusal that the one fault made on purpose must give under the plan's own pattern.
     pub expected: Option<u32>,
+    /// The plan's own items; none where its making does not tell.
+    pub items: Vec<Item>,
     pub text: Text,
 }
 
 /// The refusal about the row.
-const SHORT_ROW: u32 = 17;
+pub const SHORT_ROW: u32 = 17;
+
+/// One in so many sound plans is one without jobs.
+const RECESS: u32 = 10;
 
 /// The case of this number in the run of this seed.
 pub fn make(seed: u64, number: u64) -> Case {
@@ -33,24 +39,33 @@ pub fn make(seed: u64, number: u64) -> Case {
             let draft = if random.one_in(200) {
                 filled(random)
             } else {
-                sound(any_scale(random), random)
+                any_sound(random)
             };
             unfaulted(draft.encode(), &draft.items, random)
         }
         1 => {
             let fault = refusal(random);
-            faulty(&[fault], random)
+            faulty(any_sound(random), &[fault], random)
         }
         2 => {
             let faults = [refusal(random), refusal(random)];
-            faulty(&faults, random)
+            faulty(any_sound(random), &faults, random)
         }
         3 => {
-            let mut plan = sound(any_scale(random), random).encode();
+            let mut plan = any_sound(random).encode();
             mangle(&mut plan, random);
             unfaulted(plan, &[], random)
         }
         _ => unfaulted(noise(random), &[], random),
+    }
+}
+
+/// A sound plan: with jobs, of any scale, or without.
+fn any_sound(random: &mut Random) -> Draft {
+    if random.one_in(RECESS) {
+        recess(random)
+    } else {
+        sound(any_scale(random), random)
     }
 }
 
@@ -73,13 +88,13 @@ fn case(
         text: text::make(alphabet(&plan), items, random),
         plan,
         expected,
+        items: items.to_vec(),
     }
 }
 
-/// A sound plan with these faults, as far as it allows them.
-fn faulty(faults: &[u32], random: &mut Random) -> Case {
-    let mut draft = sound(any_scale(random), random);
-    let short = faults.contains(&SHORT_ROW);
+/// The sound plan with these faults, as far as it allows them.
+pub fn faulty(mut draft: Draft, faults: &[u32], random: &mut Random) -> Case {
+    let short = faults.contains(&SHORT_ROW) && draft.nodes > 0;
     if short {
         draft.items = vec![Item::Empty];
     }
@@ -88,17 +103,19 @@ fn faulty(faults: &[u32], random: &mut Random) -> Case {
         made |= fault_in_jobs::make(fault, &mut draft, random);
         made |= fault_in_items::make(fault, &mut draft, random);
     }
-    let mut plan = draft.encode();
+    let whole = draft.encode();
+    let mut plan = whole.clone();
     for &fault in faults {
         made |= fault_in_bytes::make(fault, &draft, &mut plan, random);
     }
-    let length = if short {
-        random.index(draft.nodes as usize)
-    } else {
-        row_length(&plan, random)
+    let length = match draft.nodes as usize {
+        nodes if short && nodes > 0 => random.index(nodes),
+        _ => row_length(&plan, random),
     };
     let expected = (made && faults.len() == 1).then(|| faults[0]);
-    case(plan, &draft.items, length, expected, random)
+    // Two faults in the bytes may make another pattern of them.
+    let items = if plan == whole { &draft.items[..] } else { &[] };
+    case(plan, items, length, expected, random)
 }
 
 /// A length of the row around the nodes that the head names, or any.

@@ -2,9 +2,10 @@
 //! laws that need no other implementation.
 
 use crate::case::Case;
-use crate::draft::as_read;
+use crate::draft::{as_read, Item};
 use crate::hex::hex;
 use crate::layout::{alphabet, NODES};
+use crate::recess_law;
 use std::fmt::Write;
 use std::ops::Range;
 use std::panic::catch_unwind;
@@ -155,14 +156,21 @@ fn broken_law(case: &Case, outcomes: &Outcomes) -> Option<String> {
             "the fault made on purpose is one of refusal {refusal}"
         ));
     }
-    broken_by(case, own)
+    let by_text = |law: String| format!("by the text {law}");
+    broken_by(case, &case.items, own)
         .or_else(|| broken_part(case, outcomes))
         .or_else(|| broken_by_text(case, own, typed))
-        .or_else(|| broken_by(case, typed).map(|law| format!("by the text {law}")))
+        .or_else(|| broken_by(case, case.text.items(), typed).map(by_text))
+}
+
+/// What is wrong with one outcome, under items that are none where they are not known.
+fn broken_by(case: &Case, items: &[Item], outcome: &Outcome) -> Option<String> {
+    broken_lending(case, outcome)
+        .or_else(|| recess_law::broken(&case.plan, items, &outcome.answer))
 }
 
 /// A refusal leaves all that is lent. A verdict counts the pairs of its row and leaves the later places.
-fn broken_by(case: &Case, outcome: &Outcome) -> Option<String> {
+fn broken_lending(case: &Case, outcome: &Outcome) -> Option<String> {
     let (word, kept) = match outcome.answer {
         Answer::Refused(_) => ("refusal", 0),
         Answer::Verified(counts) | Answer::Inconclusive(counts) => {
@@ -259,6 +267,7 @@ fn describe(case: &Case) -> String {
 mod tests {
     use super::*;
     use crate::case;
+    use crate::layout::JOBS;
 
     /// Each way in which a judge may be a little wrong on this outcome.
     fn altered(case: &Case, outcome: &Outcome) -> Vec<Outcome> {
@@ -310,6 +319,46 @@ mod tests {
                 assert!(broken_law(&case, &wrong).is_some(), "plan {number}");
             }
         }
+    }
+
+    /// The outcome with the other verdict, all else as it was; none if it is a refusal.
+    fn reversed(outcome: &Outcome) -> Option<Outcome> {
+        let answer = match outcome.answer {
+            Answer::Refused(_) => return None,
+            Answer::Verified(counts) => Answer::Inconclusive(counts),
+            Answer::Inconclusive(counts) => Answer::Verified(counts),
+        };
+        Some(Outcome {
+            answer,
+            row: outcome.row.clone(),
+            values: told(&answer)?,
+        })
+    }
+
+    #[test]
+    fn the_other_verdict_on_a_plan_without_jobs_is_found_out() {
+        let cases = (0..3_000).map(|number| case::make(1, number));
+        let mut tried = [0; 2];
+        for case in cases.filter(|case| JOBS.read(&case.plan) == 0) {
+            let right = proved(&case);
+            let own = reversed(&right.own).filter(|_| !case.items.is_empty());
+            let typed = reversed(&right.typed).filter(|_| !case.text.items().is_empty());
+            let with_own = own.map(|own| Outcomes {
+                own,
+                ..right.clone()
+            });
+            let with_typed = typed.map(|typed| Outcomes {
+                typed,
+                ..right.clone()
+            });
+            for (wrong, tried) in [with_own, with_typed].iter().zip(&mut tried) {
+                if let Some(wrong) = wrong {
+                    assert!(broken_law(&case, wrong).is_some(), "{}", describe(&case));
+                    *tried += 1;
+                }
+            }
+        }
+        assert!(tried.iter().all(|&count| count > 20), "{tried:?}");
     }
 
     /// What is said of a judge that gives this answer by a text.

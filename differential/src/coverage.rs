@@ -2,14 +2,17 @@
 
 use crate::case::Case;
 use crate::compare::Answers;
-use crate::layout::{kind, COUNTS, NODES};
+use crate::layout::{kind, CHANNELS, COUNTS, JOBS, NODES};
+use crate::recess;
 use crate::text::MOST_BYTES;
 use std::fmt;
 use traceflow::{Answer, Counts};
 
 /// The last refusal of a plan under its own pattern, and under a text; they are numbered from 1.
-const REFUSALS: usize = 17;
-const REFUSALS_BY_TEXT: usize = 20;
+const REFUSALS: u32 = 17;
+const REFUSALS_BY_TEXT: u32 = 20;
+/// The refusals that are about a text.
+const REFUSALS_OF_TEXT: [u32; 4] = [16, 18, 19, 20];
 const KINDS: [&str; 2] = ["every", "none"];
 const VERDICTS: [&str; 2] = ["verified", "inconclusive"];
 const MANY_STATES: u32 = 60;
@@ -34,16 +37,30 @@ pub struct Coverage {
     largest: u64,
     empty_final: u64,
     held_final: u64,
+    /// Refusal 5 of nodes 0 with jobs.
+    no_nodes: u64,
     typed: Tally,
     texts: Texts,
+    recess: Recess,
 }
 
 /// How often each answer was given.
 #[derive(Default)]
 struct Tally {
-    refused: [u64; REFUSALS_BY_TEXT + 1],
+    refused: [u64; REFUSALS_BY_TEXT as usize + 1],
     /// By kind, then by verdict.
     verdicts: [[u64; 2]; 2],
+}
+
+/// What plans without jobs were answered. They count here alone: what is asked of the others is met by others.
+#[derive(Default)]
+struct Recess {
+    own: Tally,
+    typed: Tally,
+    /// Judged with a row of no places.
+    no_places: u64,
+    /// Judged, and there are channels.
+    channels: u64,
 }
 
 /// What the texts were like.
@@ -79,17 +96,45 @@ impl Tally {
         }
     }
 
-    /// The refusals up to this one, then the verdicts.
-    fn asked(&self, refusals: usize, by: &str) -> Vec<(String, u64)> {
-        let refused = self.refused.iter().enumerate().take(refusals + 1).skip(1);
-        let mut asked: Vec<(String, u64)> = refused
-            .map(|(refusal, &count)| (format!("{by}refused {refusal}"), count))
-            .collect();
+    /// These refusals, then the verdicts.
+    fn asked(
+        &self,
+        refusals: impl IntoIterator<Item = u32>,
+        by: &str,
+    ) -> Vec<(String, u64)> {
+        let refused = |refusal: u32| {
+            let count = self.refused[refusal as usize];
+            (format!("{by}refused {refusal}"), count)
+        };
+        let mut asked: Vec<(String, u64)> = refusals.into_iter().map(refused).collect();
         for (kind, counts) in KINDS.iter().zip(self.verdicts) {
             for (verdict, count) in VERDICTS.iter().zip(counts) {
                 asked.push((format!("{by}{verdict}, kind {kind}"), count));
             }
         }
+        asked
+    }
+}
+
+impl Recess {
+    fn add(&mut self, case: &Case, answers: &Answers) {
+        self.own.add(&case.plan, &answers.own);
+        self.typed.add(&case.plan, &answers.typed);
+        if !matches!(answers.own, Answer::Refused(_)) {
+            self.no_places += u64::from(case.row.is_empty());
+            self.channels += u64::from(CHANNELS.read(&case.plan) > 0);
+        }
+    }
+
+    /// Refusal 5 is that of jobs 0 with nodes.
+    fn asked(&self) -> Vec<(String, u64)> {
+        let mut asked = self.own.asked(recess::REFUSALS, "no jobs: ");
+        let others = [
+            ("no jobs: judged, row of no places", self.no_places),
+            ("no jobs: judged, with channels", self.channels),
+        ];
+        asked.extend(others.map(|(name, count)| (name.to_string(), count)));
+        asked.extend(self.typed.asked(REFUSALS_OF_TEXT, "no jobs, text: "));
         asked
     }
 }
@@ -133,7 +178,13 @@ impl Texts {
 impl Coverage {
     pub fn add(&mut self, case: &Case, answers: &Answers) {
         self.plans += 1;
+        if JOBS.read(&case.plan) == 0 {
+            self.recess.add(case, answers);
+            return;
+        }
         self.own.add(&case.plan, &answers.own);
+        let no_nodes = NODES.read(&case.plan) == 0;
+        self.no_nodes += u64::from(no_nodes && answers.own == Answer::Refused(5));
         if let Answer::Verified(counts) | Answer::Inconclusive(counts) = &answers.own {
             self.add_verdict(&case.plan, counts);
         }
@@ -158,7 +209,7 @@ impl Coverage {
 
     /// How often each thing asked for occurred.
     fn asked(&self) -> Vec<(String, u64)> {
-        let mut asked = self.own.asked(REFUSALS, "");
+        let mut asked = self.own.asked(1..=REFUSALS, "");
         let others = [
             (format!("states {MANY_STATES} or more"), self.many_states),
             (format!("meetings over {MANY_MEETINGS}"), self.many_meetings),
@@ -168,10 +219,12 @@ impl Coverage {
             ("every count the largest".to_string(), self.largest),
             ("final set empty".to_string(), self.empty_final),
             ("final set not empty".to_string(), self.held_final),
+            ("refused 5, nodes 0 with jobs".to_string(), self.no_nodes),
         ];
         asked.extend(others);
-        asked.extend(self.typed.asked(REFUSALS_BY_TEXT, "text: "));
+        asked.extend(self.typed.asked(1..=REFUSALS_BY_TEXT, "text: "));
         asked.extend(self.texts.asked());
+        asked.extend(self.recess.asked());
         asked
     }
 
@@ -184,7 +237,7 @@ impl Coverage {
 
 impl fmt::Display for Coverage {
     fn fmt(&self, out: &mut fmt::Formatter) -> fmt::Result {
-        let mut line = |name: &str, count: u64| writeln!(out, "{name:<32}{count:>8}");
+        let mut line = |name: &str, count: u64| writeln!(out, "{name:<40}{count:>8}");
         line("plans", self.plans)?;
         for (name, count) in self.asked() {
             line(&name, count)?;

@@ -7,6 +7,9 @@ use crate::layout::{MOST_CHANNELS, MOST_NODES};
 use crate::random::Random;
 use std::ops::Range;
 
+/// Events are below this.
+const EVENTS: u32 = 32;
+
 /// Makes the fault of this refusal, if it is one of these.
 pub fn make(refusal: u32, draft: &mut Draft, random: &mut Random) -> bool {
     match refusal {
@@ -43,12 +46,17 @@ fn outside(span: &Range<u32>, random: &mut Random) -> Option<u32> {
     (!chosen.is_empty()).then(|| random.pick(&chosen))
 }
 
-/// A size 0, or sizes of another sum: also one that is right in 9 bits only.
+/// A size 0, or sizes of another sum: also one that is right in 9 bits only, and that of no jobs, or of no nodes.
 fn wrong_sizes(draft: &mut Draft, random: &mut Random) -> bool {
+    if draft.jobs.is_empty() {
+        let any = random.within(1..=MOST_NODES);
+        draft.nodes = random.pick(&[1, any, MOST_NODES]);
+        return true;
+    }
     let job = random.index(draft.jobs.len());
     let next = (job + 1) % draft.jobs.len();
     let size = draft.jobs[job].size;
-    match random.below(5) {
+    match random.below(7) {
         0 => draft.jobs[job].size = 0,
         1 if next != job => {
             draft.jobs[next].size += size;
@@ -60,12 +68,17 @@ fn wrong_sizes(draft: &mut Draft, random: &mut Random) -> bool {
         }
         3 if draft.nodes > 1 => draft.nodes -= 1,
         4 if draft.nodes < MOST_NODES => draft.nodes += 1,
+        5 => draft.nodes = 0,
+        6 => draft.jobs.clear(),
         _ => draft.jobs[job].size = size ^ random.within(1..=511),
     }
     true
 }
 
 fn strange_entry_or_exit(draft: &mut Draft, random: &mut Random) -> bool {
+    if draft.jobs.is_empty() {
+        return false;
+    }
     let index = random.index(draft.jobs.len());
     let Some(strange) = outside(&spans(draft)[index], random) else {
         return false;
@@ -95,7 +108,27 @@ fn any_arc<'a>(draft: &'a mut Draft, random: &mut Random) -> &'a mut Arc {
     random.pick_mut(list.expect("one of the three lists has an arc"))
 }
 
+/// A new step, call or accept, which in a plan without jobs is strange whatever its ends and its channel.
+fn strange_arc(draft: &mut Draft, random: &mut Random) -> bool {
+    let (list, labels) = match random.below(3) {
+        0 => (&mut draft.steps, EVENTS),
+        1 => (&mut draft.calls, MOST_CHANNELS),
+        _ => (&mut draft.accepts, MOST_CHANNELS),
+    };
+    let mut end = || match random.one_in(2) {
+        true => 0,
+        false => random.below(MOST_NODES),
+    };
+    let (from, to) = (end(), end());
+    let label = random.below(labels);
+    list.push(Arc { from, to, label });
+    true
+}
+
 fn strange_end(draft: &mut Draft, random: &mut Random) -> bool {
+    if draft.jobs.is_empty() {
+        return strange_arc(draft, random);
+    }
     let (spans, nodes) = (spans(draft), draft.nodes);
     let arc = any_arc(draft, random);
     if nodes < MOST_NODES && random.one_in(4) {
@@ -117,6 +150,9 @@ fn strange_end(draft: &mut Draft, random: &mut Random) -> bool {
 }
 
 fn leave_exit(draft: &mut Draft, random: &mut Random) -> bool {
+    if draft.jobs.is_empty() {
+        return false;
+    }
     let (spans, jobs) = (spans(draft), draft.jobs.clone());
     let arc = any_arc(draft, random);
     let job = spans.iter().position(|span| span.contains(&arc.from));

@@ -23,16 +23,18 @@ pub const MOST_NODES: u32 = 256;
 pub const MOST_CHANNELS: u32 = 64;
 pub const MOST_ITEMS: usize = 64;
 
-pub const NODES: Count = count(5, 9, 1, MOST_NODES);
+pub const JOBS: Count = count(0, 5, 0, 16);
+pub const NODES: Count = count(5, 9, 0, MOST_NODES);
+pub const CHANNELS: Count = count(39, 7, 0, MOST_CHANNELS);
 
 /// Jobs, nodes, steps, calls, accepts, channels, items, as in the head.
 pub const COUNTS: [Count; 7] = [
-    count(0, 5, 1, 16),
+    JOBS,
     NODES,
     count(14, 9, 0, 256),
     count(23, 8, 0, 128),
     count(31, 8, 0, 128),
-    count(39, 7, 0, MOST_CHANNELS),
+    CHANNELS,
     count(47, 7, 1, MOST_ITEMS as u32),
 ];
 

@@ -13,6 +13,8 @@ mod layout;
 mod pattern;
 pub mod program;
 pub mod random;
+mod recess;
+mod recess_law;
 pub mod runs;
 mod sound;
 mod spelling;

@@ -65,7 +65,7 @@ fn run(options: &Options) -> Result<(), String> {
     let begun = Instant::now();
     let coverage = compare_all(options)?;
     print!("{coverage}");
-    println!("{:<32}{:>8.1}", "seconds", begun.elapsed().as_secs_f64());
+    println!("{:<40}{:>8.1}", "seconds", begun.elapsed().as_secs_f64());
     let missing = coverage.missing();
     if options.count >= FULL_LENGTH && !missing.is_empty() {
         return Err(format!("never met: {}", missing.join("; ")));

@@ -1,4 +1,4 @@
-//! Sound plans of all sizes, most jobs connected from entry to exit.
+//! Sound plans of all sizes with jobs, most of them connected from entry to exit.
 
 use crate::draft::{Arc, Draft, Job};
 use crate::layout::COUNTS;
@@ -27,6 +27,9 @@ pub fn any_scale(random: &mut Random) -> Scale {
     }
 }
 
+/// The least counts of a plan with jobs.
+const LEAST: [u32; 7] = [1, 1, 0, 0, 0, 0, 1];
+
 /// The counts of the head, in its order: jobs, nodes, steps, calls, accepts,
 /// channels, items.
 fn counts(scale: Scale, random: &mut Random) -> [usize; 7] {
@@ -39,8 +42,8 @@ fn counts(scale: Scale, random: &mut Random) -> [usize; 7] {
         Scale::Full => return most.map(|count| count as usize),
     };
     let mut drawn = [0; 7];
-    for (index, count) in COUNTS.iter().enumerate() {
-        drawn[index] = random.within(count.least..=upper[index]) as usize;
+    for (index, least) in LEAST.into_iter().enumerate() {
+        drawn[index] = random.within(least..=upper[index]) as usize;
     }
     let [jobs, nodes, steps, calls, accepts, channels, items] = drawn;
     let ends = if channels == 0 {
@@ -59,7 +62,7 @@ fn counts(scale: Scale, random: &mut Random) -> [usize; 7] {
     ]
 }
 
-/// A plan that none of refusals 1 to 15 applies to.
+/// A plan with jobs that none of refusals 1 to 15 applies to.
 pub fn sound(scale: Scale, random: &mut Random) -> Draft {
     let [jobs, nodes, steps, calls, accepts, channels, items] = counts(scale, random);
     let jobs = split(jobs, nodes as u32, random);
@@ -160,7 +163,7 @@ fn label(
 }
 
 /// From the empty alphabet to all 31 events, few of them most often.
-fn alphabet(random: &mut Random) -> u32 {
+pub fn alphabet(random: &mut Random) -> u32 {
     let every = u32::MAX << 1;
     match random.weighted(&[1, 8, 2, 1]) {
         0 => 0,
@@ -174,7 +177,7 @@ fn alphabet(random: &mut Random) -> u32 {
 }
 
 /// An event of the alphabet, but one in `unwatched` times any or the quiet one.
-fn any_event(alphabet: u32, unwatched: u32, random: &mut Random) -> u32 {
+pub fn any_event(alphabet: u32, unwatched: u32, random: &mut Random) -> u32 {
     if !random.one_in(unwatched) {
         random.event_of(alphabet)
     } else if random.one_in(2) {

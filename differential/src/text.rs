@@ -22,6 +22,14 @@ pub struct Text {
 }
 
 impl Text {
+    /// Its items; none where its making does not tell them, or it has a refusal.
+    pub fn items(&self) -> &[Item] {
+        match &self.reading {
+            Some(Ok(items)) => items,
+            _ => &[],
+        }
+    }
+
     /// The refusal that it must give to a plan that none of 1 to 15 applies to, where its making tells.
     pub fn expected(&self) -> Option<u32> {
         match self.reading {

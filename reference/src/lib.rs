@@ -41,7 +41,8 @@ pub enum Answer {
 }
 
 /// Judges a plan. On a verdict the first places of the row, one a node, hold
-/// the sets of states; on a refusal the row stays unchanged.
+/// the sets of states; on a refusal the row stays unchanged. For a plan without
+/// jobs "the row may have no places" (order 4), and none is written.
 pub fn judge(plan: &[u8], row: &mut [u64]) -> Answer {
     answer(accept(plan), row)
 }
@@ -101,19 +102,27 @@ fn count(plan: &Plan, automaton: &Automaton, graph: &Graph, family: &Family) -> 
     let states = automaton.states() as u32;
     // The pairs are the tally as it ended (order 2).
     let pairs = family.pairs;
-    // The final set is the intersection of the sets at all exits.
+    // The final set is the intersection of the sets at all exits. Without jobs
+    // there is no exit, and "the one run is the empty one: the final set is
+    // {0}" (order 4).
     let exits = plan.jobs.iter().map(|job| family.sets[job.exit]);
+    let common = exits.reduce(|common, set| common & set);
     Counts {
         states,
         meetings: graph.meetings() as u32,
         ordering: graph.ordering() as u32,
         pairs,
-        fill: percent(pairs, plan.nodes as u32 * states),
-        final_set: exits.fold(u64::MAX, |common, set| common & set),
+        // Without nodes "pairs and fill are 0" (order 4).
+        fill: match plan.nodes {
+            0 => 0,
+            nodes => percent(pairs, nodes as u32 * states),
+        },
+        final_set: common.unwrap_or(1),
     }
 }
 
-/// 100 × part / whole, rounded to a whole number, a half upwards.
+/// 100 × part / whole, rounded to a whole number, a half upwards. The whole is
+/// not 0.
 fn percent(part: u32, whole: u32) -> u32 {
     (200 * part + whole) / (2 * whole)
 }

@@ -133,7 +133,8 @@ impl Plan {
     }
 
     fn check_jobs(&self) -> Result<(), u32> {
-        // Refusal 5: a job of size 0, or sizes that do not sum to the nodes.
+        // Refusal 5: a job of size 0, or sizes that do not sum to the nodes. It
+        // "answers jobs 0 with nodes or nodes 0 with jobs" (order 4).
         let sum: usize = self.jobs.iter().map(|job| job.size).sum();
         if sum != self.nodes || self.jobs.iter().any(|job| job.size == 0) {
             return Err(5);
@@ -149,7 +150,8 @@ impl Plan {
     /// Refusals 7 to 9, each over all local steps, calls and accepts.
     fn check_steps(&self) -> Result<(), u32> {
         let job_from = |from| self.jobs.get(self.job_of(from));
-        // Refusal 7: the two ends are not nodes of one and the same job.
+        // Refusal 7: the two ends are not nodes of one and the same job. Without
+        // jobs no step, call or accept has such ends.
         let in_one_job = |(from, to)| job_from(from).is_some_and(|job| job.holds(to));
         if !self.ends().all(in_one_job) {
             return Err(7);
@@ -192,9 +194,10 @@ impl Head {
         })
     }
 
+    /// "Jobs 0 becomes legal, and nodes 0 with it" (order 4).
     fn in_range(&self) -> bool {
-        (1..=16).contains(&self.jobs)
-            && (1..=256).contains(&self.nodes)
+        self.jobs <= 16
+            && self.nodes <= 256
             && self.steps <= 256
             && self.calls <= 128
             && self.accepts <= 128

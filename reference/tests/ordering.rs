@@ -130,9 +130,22 @@ impl Naive {
     }
 
     fn final_set(&self, sets: &[u64]) -> u64 {
+        // Order 4: without jobs the one run is the empty one.
+        if self.exits.is_empty() {
+            return set(&[0]);
+        }
         let states = 0..self.automaton.states() as u64;
         let at_all = |state: &u64| self.exits.iter().all(|&exit| sets[exit] >> state & 1 == 1);
         set(&states.filter(at_all).collect::<Vec<_>>())
+    }
+
+    /// Order 4: without nodes there is nothing to fill.
+    fn fill(&self, pairs: u32) -> u32 {
+        let whole = (self.jobs.len() * self.automaton.states()) as u32;
+        if whole == 0 {
+            return 0;
+        }
+        (100 * pairs + whole / 2) / whole
     }
 
     /// A state that a complete run may have reached.
@@ -177,6 +190,7 @@ fn compare(draft: &Draft) -> (bool, bool) {
     let counts = counts(answer);
     let pairs: u32 = sets.iter().map(|set| set.count_ones()).sum();
     assert_eq!(counts.pairs, pairs);
+    assert_eq!(counts.fill, naive.fill(pairs));
     assert_eq!(counts.final_set, naive.final_set(&sets));
     assert_eq!(counts.ordering as usize, naive.edges());
     let verified = matches!(answer, Answer::Verified(_));
@@ -453,9 +467,12 @@ impl Dice {
     }
 
     /// Up to so many entries of two ends in one job, not from its exit, and a
-    /// third number below the bound.
+    /// third number below the bound. None without jobs.
     fn ends(&mut self, most: u64, jobs: &[[u64; 3]], bound: u64) -> Vec<[u64; 3]> {
         let mut ends = vec![];
+        if jobs.is_empty() {
+            return ends;
+        }
         for _ in 0..self.below(most + 1) {
             let job = self.below(jobs.len() as u64) as usize;
             let first: u64 = jobs[..job].iter().map(|job| job[0]).sum();
@@ -473,11 +490,16 @@ impl Dice {
         self.plan(4, 4, 8)
     }
 
-    /// A plan of at most so many jobs, nodes of each job and local steps.
+    /// A plan of at most so many jobs, nodes of each job and local steps. One
+    /// in sixteen has no jobs.
     fn plan(&mut self, most_jobs: u64, most_nodes: u64, most_steps: u64) -> Draft {
         let mut jobs = vec![];
         let mut first = 0;
-        for _ in 0..=self.below(most_jobs) {
+        let count = match self.below(16) {
+            0 => 0,
+            _ => 1 + self.below(most_jobs),
+        };
+        for _ in 0..count {
             let size = 1 + self.below(most_nodes);
             jobs.push([size, first + self.below(size), first + self.below(size)]);
             first += size;
@@ -501,9 +523,14 @@ impl Dice {
 #[test]
 fn small_plans_thrown_at_random() {
     let mut dice = Dice(3);
-    let (mut gained, mut still) = (0, 0);
+    let (mut gained, mut still, mut without_jobs) = (0, 0, [0; 2]);
     for _ in 0..20_000 {
-        match compare(&dice.small_plan()) {
+        let draft = dice.small_plan();
+        let answer = compare(&draft);
+        if draft.jobs.is_empty() {
+            without_jobs[usize::from(answer.0)] += 1;
+        }
+        match answer {
             (true, false) => gained += 1,
             (false, false) => still += 1,
             // What 01's rule verified stays verified.
@@ -511,18 +538,24 @@ fn small_plans_thrown_at_random() {
         }
     }
     assert!(gained > 100 && still > 1_000, "{gained} {still}");
+    // Inconclusive, verified.
+    assert!(without_jobs.iter().all(|&plans| plans > 100));
 }
 
 #[test]
 fn larger_plans_thrown_at_random() {
     let mut dice = Dice(6);
+    let mut without_jobs = 0;
     for _ in 0..100 {
-        compare(&Draft {
+        let draft = Draft {
             items: Draft::many_states(4).items,
             alphabet: vec![1, 2],
             ..dice.plan(16, 16, 128)
-        });
+        };
+        compare(&draft);
+        without_jobs += u32::from(draft.jobs.is_empty());
     }
+    assert!((1..50).contains(&without_jobs), "{without_jobs}");
 }
 
 /// The order of the plan's lists changes no set.
@@ -544,15 +577,24 @@ fn plans_turned_round() {
 #[test]
 fn runs_of_small_plans() {
     let mut dice = Dice(5);
+    let mut without_jobs = 0;
     for _ in 0..2_000 {
         let draft = dice.small_plan();
         let naive = Naive::of(&draft);
         let (answer, row) = draft.judge();
-        for (nodes, state) in naive.reached() {
+        let reached = naive.reached();
+        if draft.jobs.is_empty() {
+            // The one run is the empty one, and the verdict misses nothing.
+            without_jobs += 1;
+            assert_eq!(reached, HashSet::from([(vec![], 0)]));
+            assert_eq!(matches!(answer, Answer::Verified(_)), naive.right(0));
+        }
+        for (nodes, state) in reached {
             assert!(nodes.iter().all(|&node| row[node] >> state & 1 == 1));
             if nodes == naive.exits && matches!(answer, Answer::Verified(_)) {
                 assert!(naive.right(state));
             }
         }
     }
+    assert!(without_jobs > 50, "{without_jobs}");
 }

@@ -166,6 +166,7 @@ fn known_plans() {
         ..empty
     };
     assert_eq!(pairs(&eight_nodes), 1);
+    assert_eq!(pairs(&Draft::no_jobs(&[], &[Item::Empty])), 0);
 }
 
 /// The two jobs under texts: each verdict has its own tally from 0 on.

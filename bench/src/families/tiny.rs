@@ -15,10 +15,16 @@ pub fn family() -> Family {
             short,
             member("refused 8", &one_step(1, 0)),
             member("refused 16", &one_step_under_many_states()),
+            member("no jobs", &no_jobs()),
             member("one step", &one_step(0, 1)),
             member("two jobs", &two_jobs()),
         ],
     }
+}
+
+/// A recess day: no job under the pattern event 1.
+fn no_jobs() -> Draft {
+    Builder::new(only(1), sequence(&[only(1)])).draft()
 }
 
 /// One job, 0 to 1 by event 1 under the pattern event 1: the smallest plan of use.

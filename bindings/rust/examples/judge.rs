@@ -1,9 +1,14 @@
-//! Judges plan P and prints its verdict, its sets and where its pattern stands; then judges it by a typed pattern.
+//! Judges plan P and prints its verdict, its sets and where its pattern stands; then judges it by a typed pattern; and last a plan
+//! without jobs, which needs no place of the row.
 use traceflow::Answer;
 
 const PLAN: [u8; 22] = [
     0x08, 0x08, 0x02, 0x00, 0x00, 0x00, 0x06, 0x00, 0x00, 0x00, 0x00, 0x08, 0x00, 0x04, 0x00, 0x04,
     0x20, 0x30, 0x00, 0x00, 0x00, 0x00,
+];
+
+const RECESS: [u8; 12] = [
+    0x00, 0x00, 0x00, 0x00, 0x00, 0x00, 0x04, 0x00, 0x00, 0x00, 0x00, 0x00,
 ];
 
 /// The refusal, or the verdict, its states and the sets of the two nodes.
@@ -29,4 +34,7 @@ fn main() {
     );
     let answer = traceflow::judge_text(&PLAN, b"a;a", &mut row);
     println!("by a;a: {}", told(answer, &row));
+    if let Answer::Verified(counts) = traceflow::judge(&RECESS, &mut []) {
+        println!("no jobs: verified, final {:x}", counts.final_set);
+    }
 }

@@ -11,7 +11,7 @@ pub struct Counts {
     pub ordering: u32,
     pub pairs: u32,
     pub fill: u32,
-    /// The states that all exits hold; state s has weight 2^s.
+    /// The states that all exits hold, state 0 where there are no jobs; state s has weight 2^s.
     pub final_set: u64,
 }
 
@@ -47,7 +47,7 @@ extern "C" {
 }
 
 /// Judges a plan. On a verdict the first places of the row, one a node, hold the sets, and later places are as they were; on a
-/// refusal the whole row is. A row of 256 places is enough for every plan.
+/// refusal the whole row is. A row of 256 places is enough for every plan; a plan without jobs needs none.
 pub fn judge(plan: &[u8], row: &mut [u64]) -> Answer {
     judge_by(plan, None, row)
 }

@@ -4,7 +4,7 @@ use sections::Kind;
 use verdict::Answer;
 use verdict::Counts;
 ghost use mathlib.Core.Path.{_≡_};
-ghost use Prim.Native.Nat.{_<_, _≤_};
+ghost use Prim.Native.Nat.{_≤_};
 ghost use lib.Dec.{leb};
 ghost use lib.ListN.{length};
 ghost use Rattle.verdict.specs.Verdict.{verified};
@@ -42,7 +42,7 @@ pub fn answer_on(
     ordering: u32,
     row: &mut [u64],
 ) -> Answer
-    requires { ⌜ (jobs .count ≤ 16) × (length (now masks) ≡ 256) × (pairs ≤ 16384) × (0 < nodes) × (nodes ≤ 256) × (0 < states) × (states ≤ 64) ⌝ }
+    requires { ⌜ (jobs .count ≤ 16) × (length (now masks) ≡ 256) × (pairs ≤ 16384) × (nodes ≤ 256) × (states ≤ 64) ⌝ }
     ensures { λ a. ⌜ (a ≡ unlessShort (leb nodes (length (now (row .entry)))) (verdict (verified kind (valuesOn (now (masks .entry)) jobs pairs nodes states meetings ordering .ends) accepting) (valuesOn (now (masks .entry)) jobs pairs nodes states meetings ordering))) × (now (row .exit) ≡ handed (leb nodes (length (now (row .entry)))) nodes (now (masks .entry)) (now (row .entry))) ⌝ }
 {
     let ends = verdict::final_set(masks, jobs);
@@ -51,7 +51,7 @@ pub fn answer_on(
         meetings: meetings,
         ordering: ordering,
         pairs: pairs,
-        fill: verdict::fill(pairs, nodes, states),
+        fill: verdict::fill(pairs as u16, nodes as u16, states as u8),
         ends: ends,
     };
     let verified = verdict::is_verified(kind, ends, accepting);

@@ -129,9 +129,7 @@ known =
 -- refusal 2, in plans that end with the alphabet: where there are jobs, 3 applies as well
 abbrev counts : List Case
 counts =
-    (packed (head 0 2 0 0 0 0 1), some 2)  -- jobs 0
-    ∷ (packed (head 17 2 0 0 0 0 1), some 2)  -- jobs 17
-    ∷ (packed (head 1 0 0 0 0 0 1), some 2)  -- nodes 0
+    (packed (head 17 2 0 0 0 0 1), some 2)  -- jobs 17
     ∷ (packed (head 1 257 0 0 0 0 1), some 2)  -- nodes 257
     ∷ (packed (head 1 2 257 0 0 0 1), some 2)  -- steps 257
     ∷ (packed (head 1 2 0 129 0 0 1), some 2)  -- calls 129
@@ -139,7 +137,7 @@ counts =
     ∷ (packed (head 1 2 0 0 0 65 1), some 2)  -- channels 65
     ∷ (packed (head 1 2 0 0 0 0 0), some 2)  -- items 0
     ∷ (packed (head 1 2 0 0 0 0 65), some 2)  -- items 65
-    ∷ (packed (head 1 1 0 0 0 0 1), some 3)  -- every count the least of its range
+    ∷ (packed (head 0 0 0 0 0 0 1), none)  -- every count the least of its range: a plan without jobs
     ∷ (packed (head 16 256 256 128 128 64 64), some 3)  -- every count the greatest
     ∷ []
 
@@ -189,6 +187,26 @@ wrongSizes =
     ∷ (packed (head 2 2 0 0 0 0 1 ++ job 511 0 0 ++ job 3 1 1), some 5)  -- sum 514, whose last 9 bits say 2, and 2 nodes
     ∷ (packed (head 2 256 0 0 0 0 1 ++ job 255 0 254 ++ job 1 255 255), none)  -- sum 256, and 256 nodes
     ∷ []
+
+-- plans without jobs, by document 02's order 4
+abbrev noJobs : List Case
+noJobs =
+    (packed (head 0 1 0 0 0 0 1), some 5)  -- jobs 0 with nodes, up to the most
+    ∷ (packed (head 0 256 0 0 0 0 1), some 5)
+    ∷ (packed (head 0 257 0 0 0 0 1), some 2)
+    ∷ (packed (head 1 0 0 0 0 0 1 ++ job 0 0 0), some 5)  -- nodes 0 with jobs
+    ∷ (packed (head 1 0 0 0 0 0 1 ++ job 1 0 0), some 5)
+    ∷ (packed (head 16 0 0 0 0 0 1 ++ each 16 (λ i. job 0 0 0)), some 5)
+    ∷ (packed (head 1 0 0 0 0 0 1), some 3)  -- 3 and 5
+    ∷ (packed (head 0 0 1 0 0 0 1 ++ step 0 0 0), some 7)  -- with a step, a call, an accept; 7 and 9
+    ∷ (packed (head 0 0 0 1 0 1 1 ++ channel 0 ++ link 0 0 0), some 7)
+    ∷ (packed (head 0 0 0 0 1 0 1 ++ link 0 0 0), some 7)
+    ∷ (packed (head 0 1 1 0 0 0 1 ++ step 0 0 0), some 5)  -- 5 and 7
+    ∷ (packed (head 0 0 1 0 0 0 1), some 3)  -- the step is not there
+    ∷ (packed (head 0 0 0 0 0 64 1 ++ each 64 (λ i. channel 1)), none)  -- with channels
+    ∷ (take 10 (packed (head 0 0 0 0 0 0 1)), some 1)
+    ∷ map (λ v. (set (packed (head 0 0 0 0 0 0 1)) 10 v, some 4)) (0x04 ∷ 0x02 ∷ 0x01 ∷ [])  -- each of the three filling bits
+    ++ map (λ v. (set (packed (head 0 1 0 0 0 0 1)) 10 v, some 4)) (0x04 ∷ 0x02 ∷ 0x01 ∷ [])  -- 4 and 5
 
 -- refusal 6
 abbrev strays : List Case
@@ -284,8 +302,8 @@ noise =
 -- the table
 abbrev pub cases : List Case
 cases =
-    known ++ counts ++ wholes ++ cuts ++ fillings ++ wrongSizes ++ strays ++ splitEnds ++ exitsLeft ++ noChannels ++ overlaps
-    ++ noise
+    known ++ counts ++ wholes ++ cuts ++ fillings ++ wrongSizes ++ noJobs ++ strays ++ splitEnds ++ exitsLeft ++ noChannels
+    ++ overlaps ++ noise
 
 answers : map (λ (c : Case). first order (c .0)) cases ≡ map (λ (c : Case). c .1) cases
 unfolding bitsOf valueFrom fieldAt eventsFrom eventsAt row planOf first anyFrom ownersFrom total countsOutside

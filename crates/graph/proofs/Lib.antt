@@ -7,3 +7,4 @@ pub mod Fewer
 pub mod Edges
 pub mod Once
 pub mod Plans
+pub mod NoJobs

@@ -105,9 +105,7 @@ legal b e =
     let f = framed b (parts .0) in
     let s = shaped (planOf b) (parts .1) in
     record {
-      some-job = rw row-length (f .counts .some-job);
       jobs = rw row-length (f .counts .jobs);
-      some-node = f .counts .some-node;
       nodes = f .counts .nodes;
       steps = rw row-length (f .counts .steps);
       channels = rw row-length (f .counts .channels);

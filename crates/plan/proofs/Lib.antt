@@ -7,3 +7,4 @@ pub mod Ends
 pub mod Legality
 pub mod Cases
 pub mod Keeps
+pub mod NoJobs

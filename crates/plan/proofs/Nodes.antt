@@ -3,15 +3,16 @@ use mathlib.Core.Path.{_≡_, refl, sym, ap, _∙_}
 use mathlib.Core.Logic.{⊎-elim}
 use mathlib.Core.List.{List, [], _∷_, _++_, append-assoc, append-nil}
 use Prim.Native.Nat.{ℕ, zero, suc, _+_, _≤_, _<_}
-use native.Mathlib.Nat.{le-refl, eq-or-lt-of-le}
+use native.Mathlib.Nat.{le-refl, eq-or-lt-of-le, not-suc-le-zero}
 use native.Mathlib.Numerals.{add-one}
 use native.Mathlib.Omega.{arith}
 use lib.ListN.{length, replicate, length-append, length-replicate}
-use Rattle.sections.specs.Plan.{Job}
+use Rattle.sections.specs.Plan.{Job, Plan}
 use Rattle.rows.specs.Rows.{row, place}
 use Rattle.sections.specs.Tables.{sizes}
 use Rattle.rows.proofs.Rows.{row-length, row-more, map-append}
-use Rattle.plan.specs.Nodes.{owners, ownersFrom, total}
+use Rattle.plan.specs.Nodes.{owners, ownersFrom, jobOf, total}
+use Rattle.plan.specs.Legal.{Legal}
 
 -- ---- sums
 
@@ -80,3 +81,12 @@ owners-from-below j (x ∷ xs) k z h i =
 
 pub owners-below : (xs : List Job) (k : ℕ) → 0 < k → length xs ≤ k → (i : ℕ) → place (owners xs) i < k
 owners-below xs k z h i = owners-from-below 0 xs k z (omega arith) i
+
+-- each node is of one of the jobs
+owner-there : (xs : List Job) (i : ℕ) → i < total (sizes xs) → place (owners xs) i < length xs
+unfolding total
+owner-there [] i h = absurd (not-suc-le-zero h)
+owner-there (x ∷ xs) i h = owners-below (x ∷ xs) (length (x ∷ xs)) (omega arith) (le-refl _) i
+
+pub job-there : (p : Plan) → Legal p → (n : ℕ) → n < p .nodes → jobOf p n < length (p .jobs)
+job-there p legal n h = owner-there (p .jobs) n (omega (arith, h, legal .sizes))

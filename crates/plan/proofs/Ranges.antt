@@ -15,9 +15,7 @@ use Rattle.plan.proofs.Tests.{or-none, first-none}
 
 -- each count is within its range
 pub record Ranged (h : Head) : Type 0 where
-  pub some-job : 1 ≤ h .jobs
   pub jobs : h .jobs ≤ 16
-  pub some-node : 1 ≤ h .nodes
   pub nodes : h .nodes ≤ 256
   pub steps : h .steps ≤ 256
   pub calls : h .calls ≤ 128
@@ -38,14 +36,10 @@ ranged h e =
     let d = or-none _ _ (c .1) in
     let f = or-none _ _ (d .1) in
     let g = or-none _ _ (f .1) in
-    let jobs = inside 1 16 (h .jobs) (a .0) in
-    let nodes = inside 1 256 (h .nodes) (b .0) in
     let items = inside 1 64 (h .items) (g .1) in
     record {
-      some-job = jobs .0;
-      jobs = jobs .1;
-      some-node = nodes .0;
-      nodes = nodes .1;
+      jobs = inside 0 16 (h .jobs) (a .0) .1;
+      nodes = inside 0 256 (h .nodes) (b .0) .1;
       steps = inside 0 256 (h .steps) (c .0) .1;
       calls = inside 0 128 (h .calls) (d .0) .1;
       accepts = inside 0 128 (h .accepts) (f .0) .1;

@@ -1,4 +1,5 @@
--- What an accepted plan is: refusals 2 to 9, read as what holds where none of them applies.
+-- What an accepted plan is: refusals 2 to 9, read as what holds where none of them applies. It may have no jobs (order 4), and then has no
+-- nodes (`no-nodes`).
 use mathlib.Core.Path.{_≡_}
 use mathlib.Core.List.{List, List·Memᴰ}
 use Prim.Native.Nat.{ℕ, _≤_, _<_}
@@ -22,9 +23,7 @@ pub record Inside (p : Plan) (a : Arc) : Type 0 where
   pub stays : a .from ≡ exitOf p (jobOf p (a .from)) → ⊥
 
 pub record Legal (p : Plan) : Type 0 where
-  pub some-job : 1 ≤ length (p .jobs)
   pub jobs : length (p .jobs) ≤ 16
-  pub some-node : 1 ≤ p .nodes
   pub nodes : p .nodes ≤ 256
   pub steps : length (p .steps) ≤ 256
   pub channels : length (p .channels) ≤ 64

@@ -1,4 +1,4 @@
--- Document 01, "When a plan is turned down": the refusals 1 to 9, a test each, and their order.
+-- Document 01, "When a plan is turned down": the refusals 1 to 9, a test each, and their order. Document 02, order 4.
 use Prim.Native.Nat.{ℕ, _-_, _*_}
 use mathlib.Core.Bool.{Bool, _&&_, _||_, not}
 use mathlib.Core.List.{List, [], _∷_, _++_, map}
@@ -16,14 +16,14 @@ use Rattle.plan.specs.Nodes.{jobOf, exitOf, isNode, total}
 abbrev pub tooShort : List ℕ → Bool
 tooShort b = ltb (length b) 11
 
--- 2. "A count of the head is outside its range."
+-- 2. "A count of the head is outside its range." Order 4: "Jobs 0 becomes legal, and nodes 0 with it; 2 is amended so"
 abbrev pub outside : ℕ → ℕ → ℕ → Bool
 outside low high n = ltb n low || ltb high n
 
 unfoldable pub countsOutside : Head → Bool
 countsOutside h =
-    outside 1 16 (h .jobs)
-    || (outside 1 256 (h .nodes)
+    outside 0 16 (h .jobs)
+    || (outside 0 256 (h .nodes)
     || (outside 0 256 (h .steps)
     || (outside 0 128 (h .calls) || (outside 0 128 (h .accepts) || (outside 0 64 (h .channels) || outside 1 64 (h .items))))))
 
@@ -38,7 +38,8 @@ cutShort b = ltb (length b) (patternAt (headOf b))
 abbrev pub filled : List ℕ → Bool
 filled b = not (eqb (fieldAt b (endAt (headOf b)) (8 * patternAt (headOf b) - endAt (headOf b))) 0)
 
--- 5. "A job has size 0, or the sizes do not sum to the nodes."
+-- 5. "A job has size 0, or the sizes do not sum to the nodes." Order 4: "5 answers jobs 0 with nodes or nodes 0 with jobs", by these very
+-- words (`nodes-without-jobs`, `jobs-without-nodes`)
 abbrev pub sizesWrong : ℕ → List Job → Bool
 sizesWrong nodes jobs = any (λ (b : Job). eqb (b .size) 0) jobs || not (eqb (total (sizes jobs)) nodes)
 
@@ -59,7 +60,7 @@ links p = p .calls ++ p .accepts
 abbrev pub arcs : Plan → List Arc
 arcs p = p .steps ++ links p
 
--- 7. "A step's two ends are not nodes of one and the same job."
+-- 7. "A step's two ends are not nodes of one and the same job." So too in a plan without jobs (`arcs-without-jobs`)
 abbrev pub apart : ℕ → (ℕ → ℕ) → Arc → Bool
 apart nodes job a = not (ltb (a .from) nodes && (ltb (a .to) nodes && eqb (job (a .from)) (job (a .to))))
 

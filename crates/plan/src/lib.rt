@@ -24,8 +24,8 @@ fn is_outside(low: usize, high: usize, n: usize) -> bool
 fn counts_outside(h: Head) -> bool
     ensures { λ r. ⌜ r ≡ countsOutside h ⌝ }
 {
-    let jobs = is_outside(1, 16, h.jobs);
-    let nodes = is_outside(1, 256, h.nodes);
+    let jobs = is_outside(0, 16, h.jobs);
+    let nodes = is_outside(0, 256, h.nodes);
     let steps = is_outside(0, 256, h.steps);
     let calls = is_outside(0, 128, h.calls);
     let accepts = is_outside(0, 128, h.accepts);

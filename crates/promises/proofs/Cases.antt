@@ -1,5 +1,5 @@
 -- Plans with known verdicts: the bytes of a plan and a lent row, the answer to them and the row in the end, by evaluation.
--- Document 01, "Plans with known verdicts" and "Errors an analyst makes", and document 02, order 3.
+-- Document 01, "Plans with known verdicts" and "Errors an analyst makes", and document 02, orders 3 and 4.
 use mathlib.Core.Path.{_≡_, refl}
 use mathlib.Core.List.{List, [], _∷_, _++_, map, List·Memᴰ}
 use mathlib.Core.Option.{Option, some}
@@ -50,6 +50,9 @@ of-none nodes = plan 1 nodes (2 ^ 30) (one (1 ∷ []) ∷ [])
 -- "Alphabet empty, pattern the empty string."
 abbrev quiet : (nodes : ℕ) → (jobs steps channels calls accepts : List Fields) → List ℕ
 quiet nodes = plan 0 nodes 0 (kind 0 ∷ [])
+
+abbrev quiet-none : (nodes : ℕ) → (jobs steps channels calls accepts : List Fields) → List ℕ
+quiet-none nodes = plan 1 nodes 0 (kind 0 ∷ [])
 
 -- the alphabet of 1 and 2, and the patterns "1 then 2", 1 and 2 in either order
 abbrev one-two : (nodes : ℕ) → (jobs steps channels calls accepts : List Fields) → List ℕ
@@ -166,9 +169,32 @@ ordered =
     (1 ∷ 2 ∷ 3 ∷ 4 ∷ 5 ∷ []) (counts 4 0 4 14 88 14) (15 ∷ 14 ∷ 15 ∷ 14 ∷ 5 ∷ [])
     ∷ []
 
+-- plans of recess days
+abbrev recess : List Case
+recess =
+    -- no jobs, alphabet empty, pattern the empty string
+    verified (quiet 0 [] [] [] [] []) (7 ∷ 8 ∷ []) (counts 1 0 0 0 0 1) (7 ∷ 8 ∷ [])
+    ∷ inconclusive (quiet-none 0 [] [] [] [] []) (7 ∷ 8 ∷ []) (counts 1 0 0 0 0 1) (7 ∷ 8 ∷ [])
+    -- the alphabet and pattern of P
+    ∷ inconclusive (of-every 0 [] [] [] [] []) (7 ∷ 8 ∷ []) (counts 3 0 0 0 0 1) (7 ∷ 8 ∷ [])
+    ∷ verified (of-none 0 [] [] [] [] []) (7 ∷ 8 ∷ []) (counts 3 0 0 0 0 1) (7 ∷ 8 ∷ [])
+    ∷ verified (quiet 0 [] [] [] [] []) [] (counts 1 0 0 0 0 1) []  -- a row of no places
+    ∷ verified (quiet 0 [] [] (channel 1 ∷ channel 0 ∷ []) [] []) [] (counts 1 0 0 0 0 1) []  -- with channels
+    ∷ refused (quiet 1 [] [] [] [] []) (7 ∷ 8 ∷ []) 5  -- jobs 0 with nodes 1
+    ∷ refused (quiet 0 (job 0 0 0 ∷ []) [] [] [] []) (7 ∷ 8 ∷ []) 5  -- jobs 1 with nodes 0, of size 0 and of size 1
+    ∷ refused (quiet 0 (job 1 0 0 ∷ []) [] [] [] []) (7 ∷ 8 ∷ []) 5
+    ∷ refused (quiet 0 [] (step 0 0 0 ∷ []) [] [] []) (7 ∷ 8 ∷ []) 7  -- jobs 0 with a step, with a call, with an accept on no channel
+    ∷ refused (quiet 0 [] [] (channel 0 ∷ []) (link 0 0 0 ∷ []) []) (7 ∷ 8 ∷ []) 7
+    ∷ refused (quiet 0 [] [] [] [] (link 0 0 0 ∷ [])) (7 ∷ 8 ∷ []) 7
+    ∷ refused (set (quiet 0 [] [] [] [] []) 10 0x01) (7 ∷ 8 ∷ []) 4  -- jobs 0 with a filling bit
+    ∷ refused (set (quiet 1 [] [] [] [] []) 10 0x01) (7 ∷ 8 ∷ []) 4  -- 4 and 5
+    ∷ refused (take 10 (quiet 0 [] [] [] [] [])) [] 1  -- with 10 bytes, and with 11, without an item
+    ∷ refused (take 11 (quiet 0 [] [] [] [] [])) [] 10
+    ∷ []
+
 -- the table
 abbrev pub cases : List Case
-cases = judged ++ turnedDown ++ mistaken ++ ordered
+cases = judged ++ turnedDown ++ mistaken ++ ordered ++ recess
 
 -- what two rounds of the rules give, which are enough for all of them
 abbrev found : Case → Option Outcome

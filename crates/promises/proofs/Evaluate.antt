@@ -80,7 +80,7 @@ module _ (q : Pattern) (b : List ℕ) (places : ℕ) (passed : first (judgeable 
   long-row : planOf b .nodes ≤ places
   long-row = ltb-false places (planOf b .nodes) (past-17 .1)
 
-  few-states : statesOf (expressionBy q b) (planOf b .alphabet) ≡ some (numbered (planOf b) (expressionBy q b))
+  pub few-states : statesOf (expressionBy q b) (planOf b .alphabet) ≡ some (numbered (planOf b) (expressionBy q b))
   few-states = within-limit (statesOf (expressionBy q b) (planOf b .alphabet)) (past-17 .0)
 
   pub legal-plan : Legal (planOf b)

@@ -8,4 +8,5 @@ pub mod SameItems
 pub mod Numbers
 pub mod Evaluate
 pub mod Narrower
+pub mod NoJobs
 pub mod Cases

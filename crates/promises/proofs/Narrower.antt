@@ -43,7 +43,7 @@ module _ (p : Plan) (r : Expression) (wide : List ℕ) where
         final-fewer (place after) (place wide) (exitOf p) mustEnd (length (p .jobs)) (λ j l. sets-narrower (exitOf p j) (legal .exit j l .node))
 
 -- a verdict is no refusal
-no-refusal : (a : Answer) (x : Bool × Counts) → verdictOf a ≡ some x → refusalOf a ≡ none
+pub no-refusal : (a : Answer) (x : Bool × Counts) → verdictOf a ≡ some x → refusalOf a ≡ none
 no-refusal (Refused n) x e = absurd (Option·none-ne-some x e)
 no-refusal (Verified c) x e = refl
 no-refusal (Inconclusive c) x e = refl

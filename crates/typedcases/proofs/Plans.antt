@@ -175,9 +175,26 @@ overlaps =
     ∷ refused P (text "a") short 17
     ∷ []
 
+-- order 4: no jobs, the alphabet and pattern of P
+abbrev recess : List ℕ
+recess = packed (head 0 0 0 0 0 0 1) ++ packed (one (1 ∷ []))
+
+abbrev of-no-jobs : List TypedCase
+of-no-jobs =
+    verified recess (text "0") [] (counts 2 0 0 0 0 1) []
+    ∷ verified recess (text "a*") three (counts 2 0 0 0 0 1) three
+    ∷ inconclusive recess (text "a") [] (counts 3 0 0 0 0 1) []
+    ∷ inconclusive recess (text "[]") three (counts 2 0 0 0 0 1) three
+    ∷ inconclusive (set recess 5 0x02) (text "a|0") [] (counts 3 0 0 0 0 1) []  -- of kind none
+    ∷ verified (set recess 5 0x02) (text "a") [] (counts 3 0 0 0 0 1) []
+    ∷ refused recess (text "a;") [] 18
+    ∷ refused recess (text "b") [] 20
+    ∷ refused (packed (head 0 1 0 0 0 0 1) ++ packed (one (1 ∷ []))) (text "a;") [] 5  -- jobs 0 with nodes, and 18
+    ∷ []
+
 -- the table
 abbrev pub cases : List TypedCase
-cases = of-two-jobs ++ of-P ++ of-many-states ++ own-items ++ overlaps
+cases = of-two-jobs ++ of-P ++ of-many-states ++ own-items ++ overlaps ++ of-no-jobs
 
 -- by 100 steps of reading and two rounds of the rules, which are enough for all of them
 abbrev found : TypedCase → Option Outcome

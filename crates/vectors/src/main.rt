@@ -153,6 +153,70 @@ fn ordering_edges() {
     );
 }
 
+// Recess days: plans without jobs, and those that come near.
+fn no_jobs() {
+    // no jobs, an empty alphabet, the empty string
+    replay(
+        b"no jobs",
+        b"\x00\x00\x00\x00\x00\x00\x04\x00\x00\x00\x00\x00",
+        2,
+    );
+    // the same of kind none
+    replay(
+        b"no jobs, of kind none",
+        b"\x00\x00\x00\x00\x00\x02\x04\x00\x00\x00\x00\x00",
+        2,
+    );
+    // no jobs, the alphabet, pattern and kind of P
+    replay(
+        b"no jobs, the pattern of P",
+        b"\x00\x00\x00\x00\x00\x00\x06\x00\x00\x00\x00\x30\x00\x00\x00\x00",
+        2,
+    );
+    // the same of kind none
+    replay(
+        b"no jobs, the pattern of P, of kind none",
+        b"\x00\x00\x00\x00\x00\x02\x06\x00\x00\x00\x00\x30\x00\x00\x00\x00",
+        2,
+    );
+    // the first of these again, with a row of no places
+    replay(
+        b"no jobs, a row of no places",
+        b"\x00\x00\x00\x00\x00\x00\x04\x00\x00\x00\x00\x00",
+        0,
+    );
+    // two channels, by events 1 and 0
+    replay(
+        b"no jobs, and channels",
+        b"\x00\x00\x00\x00\x00\x08\x04\x00\x00\x00\x00\x40\x00",
+        0,
+    );
+    // jobs 0 with nodes 1
+    replay(
+        b"nodes without jobs",
+        b"\x00\x04\x00\x00\x00\x00\x04\x00\x00\x00\x00\x00",
+        2,
+    );
+    // jobs 1 with nodes 0, the job of size 1
+    replay(
+        b"a job without nodes",
+        b"\x08\x00\x00\x00\x00\x00\x04\x00\x00\x00\x00\x04\x00\x00\x00",
+        2,
+    );
+    // a step from 0 to 0
+    replay(
+        b"a step without jobs",
+        b"\x00\x00\x02\x00\x00\x00\x04\x00\x00\x00\x00\x00\x00\x00\x00",
+        2,
+    );
+    // the first of these with its last filling bit set
+    replay(
+        b"no jobs, and a filling bit",
+        b"\x00\x00\x00\x00\x00\x00\x04\x00\x00\x00\x01\x00",
+        2,
+    );
+}
+
 // Heads and jobs that are refused, a plan for each number that is not yet among them.
 fn refused_jobs() {
     // P with 17 jobs
@@ -244,6 +308,7 @@ fn main() {
     many_states();
     more_jobs();
     ordering_edges();
+    no_jobs();
     refused_jobs();
     refused_steps();
     refused_items();

@@ -1,10 +1,11 @@
 //! The inputs on which the program is tried.
 
-use crate::case;
+use crate::case::{self, SHORT_ROW};
 use crate::program::largest;
 use crate::program::line::{answer, answer_by, name, READ};
 use crate::program::writing::Writing;
 use crate::random::Random;
+use crate::recess::{known, recess};
 use crate::text::MOST_BYTES;
 use reference::Answer;
 use std::collections::BTreeMap;
@@ -28,6 +29,10 @@ const REFUSED: usize = 15;
 const JUDGED: usize = 60;
 /// The same with a text, for each answer.
 const TYPED: usize = 4;
+/// Plans without jobs, for each answer, with a text and without.
+const RECESS: usize = 4;
+/// Such plans that are drawn to find them, each refusal aimed at in turn.
+const RECESS_DRAWN: u32 = 1_000;
 /// One in so many of them is written in pieces.
 const IN_PIECES: usize = 4;
 /// Plans of the seed that are looked through for them.
@@ -54,6 +59,8 @@ pub fn all(seed: u64) -> Vec<Input> {
     inputs.extend(long(&all_sets, random));
     inputs.extend(printed_with_texts());
     inputs.extend(generated_with_texts(seed));
+    inputs.extend(known_without_jobs());
+    inputs.extend(generated_without_jobs(random));
     inputs
 }
 
@@ -215,6 +222,41 @@ fn generated_with_texts(seed: u64) -> Vec<Input> {
         let answer = answer_by(Some(text), &case.plan);
         if !text.contains(&0) && kept.one_more(&answer, TYPED).is_some() {
             inputs.push(Input::typed(&format!("plan {number}"), &case.plan, text));
+        }
+    }
+    inputs
+}
+
+/// Texts for the plans without jobs and with known verdicts, whose alphabet is empty or {a}.
+const TEXTS_WITHOUT_JOBS: [&str; 5] = ["0", "a", "a*", "[^]", "[]|0"];
+
+/// The plans without jobs and with known verdicts, in all ways and with short texts.
+fn known_without_jobs() -> Vec<Input> {
+    let name = "a known plan without jobs";
+    let mut inputs = Vec::new();
+    for plan in known().map(|draft| draft.encode()) {
+        inputs.extend(Input::in_all_ways(name, &plan));
+        let typed = |text: &str| Input::typed(name, &plan, text.as_bytes());
+        inputs.extend(TEXTS_WITHOUT_JOBS.map(typed));
+    }
+    inputs
+}
+
+/// Generated plans without jobs, with a fault or without, some of each answer under their own patterns and some under their texts.
+fn generated_without_jobs(random: &mut Random) -> Vec<Input> {
+    let mut inputs = Vec::new();
+    let (mut kept, mut typed) = (Kept::default(), Kept::default());
+    for number in 0..RECESS_DRAWN {
+        let fault = 1 + number % SHORT_ROW;
+        let case = case::faulty(recess(random), &[fault], random);
+        let (plan, text) = (&case.plan, &case.text.bytes);
+        let name = format!("plan {number} without jobs");
+        if kept.one_more(&answer(plan), RECESS).is_some() {
+            inputs.push(Input::new(&name, plan, Writing::Whole));
+        }
+        let answer = answer_by(Some(text), plan);
+        if !text.contains(&0) && typed.one_more(&answer, RECESS).is_some() {
+            inputs.push(Input::typed(&name, plan, text));
         }
     }
     inputs

@@ -1,9 +1,11 @@
 //! What the inputs of the program were like and what they were answered: counted, and all of it asked for.
 
+use crate::layout::JOBS;
 use crate::program::inputs::{Input, LONG_TEXTS};
 use crate::program::largest;
 use crate::program::line::{name, READ};
 use crate::program::writing::Writing;
+use crate::recess;
 use reference::Answer;
 use std::collections::BTreeMap;
 use std::ops::RangeInclusive;
@@ -57,6 +59,10 @@ fn by_text(answer: &str) -> String {
     format!("{answer} by a text")
 }
 
+fn without_jobs(answer: &str) -> String {
+    format!("{answer} without jobs")
+}
+
 fn text_of(length: usize) -> String {
     format!("a text of {length} bytes")
 }
@@ -73,25 +79,38 @@ fn asked() -> Vec<String> {
     asked.extend(VERDICTS.map(by_text));
     asked.push(EMPTY_TEXT.to_string());
     asked.extend(LONG_TEXTS.map(text_of));
+    asked.extend(recess::REFUSALS.map(|number| without_jobs(&refused(number))));
+    asked.extend(VERDICTS.map(without_jobs));
+    let refusals = REFUSALS_OF_TEXT.map(refused);
+    asked.extend(refusals.map(|refused| by_text(&without_jobs(&refused))));
+    asked.extend(VERDICTS.map(|verdict| by_text(&without_jobs(verdict))));
     asked
 }
 
 /// What one input is an example of.
 fn of(input: &Input, answer: &Answer) -> Vec<String> {
     let name = name(answer);
-    match &input.text {
-        None => of_plan(input, answer, name),
+    let mut met = match &input.text {
+        None => of_plan(input, answer, &name),
         Some(text) if text.is_empty() => vec![by_text(&name), EMPTY_TEXT.to_string()],
         Some(text) => vec![by_text(&name), text_of(text.len())],
+    };
+    if JOBS.read(&input.bytes) == 0 {
+        let name = without_jobs(&name);
+        met.push(match input.text {
+            None => name,
+            Some(_) => by_text(&name),
+        });
     }
+    met
 }
 
-fn of_plan(input: &Input, answer: &Answer, name: String) -> Vec<String> {
+fn of_plan(input: &Input, answer: &Answer, name: &str) -> Vec<String> {
     let length = input.bytes.len();
     let judged = !matches!(answer, Answer::Refused(_));
-    let mut met = vec![name.clone()];
+    let mut met = vec![name.to_string()];
     if judged && length == largest::JUDGED {
-        met.push(on_the_largest(&name));
+        met.push(on_the_largest(name));
     }
     let others = [
         (NO_BYTE, length == 0),
@@ -122,7 +141,8 @@ mod tests {
         };
         tally.add(&input, &Answer::Refused(1));
         let mut left = asked();
-        left.retain(|what| what != "refused 1" && what != ONE_BYTE);
+        let met = ["refused 1", "refused 1 without jobs", ONE_BYTE];
+        left.retain(|what| !met.contains(&&what[..]));
         assert_eq!(tally.missing(), left);
     }
 }

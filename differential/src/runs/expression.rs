@@ -24,6 +24,13 @@ enum Expression {
     Star(Id),
 }
 
+/// Whether the empty string belongs to the language of these items; none where they are no expression.
+pub fn has_empty_string(items: &[Item]) -> Option<bool> {
+    let mut expressions = Expressions::new();
+    let whole = expressions.of_items(items)?;
+    Some(expressions.nullable(whole))
+}
+
 /// All expressions met so far, each one once.
 pub struct Expressions {
     met: Vec<Expression>,

@@ -2,12 +2,13 @@
 //! itself, and against the smallest sets by the flow rules' own words.
 
 mod exploration;
-mod expression;
+pub(crate) mod expression;
 #[cfg(test)]
 mod expression_tests;
 pub(crate) mod least;
 mod moves;
 mod plans;
+mod recess;
 
 use crate::draft::as_read;
 use crate::hex::hex;
@@ -15,16 +16,17 @@ use crate::random::Random;
 use exploration::{explore, Explored};
 use least::{is_verified, least, Asked, HELD, HELD_BUT_BY_MEETING, HELD_BUT_BY_ORDERING};
 use plans::Small;
+use recess::Recess;
 use reference::{Automaton, Item, Kind, Plan};
 use std::fmt;
 use traceflow::Answer;
 
-/// Plans that are made.
-const PLANS: usize = 20_000;
+/// Plans that are made, one in eleven without jobs.
+const PLANS: usize = 22_000;
 /// A plan with more configurations is passed over.
 const CONFIGURATIONS: usize = 200_000;
 
-/// What the explorations saw together. The pairs are for kind every, then kind none.
+/// What the explorations saw together. The pairs are for kind every, then kind none. Plans without jobs count apart.
 #[derive(Default)]
 struct Tally {
     plans: usize,
@@ -40,6 +42,7 @@ struct Tally {
     /// Inconclusive plans that have a wrong complete run: for information.
     wrong: [usize; 2],
     premise: Premise,
+    recess: Recess,
 }
 
 /// What it is worth that ordering edges ask for the state before the move.
@@ -128,12 +131,23 @@ fn check(
         Some(explored) if verified && explored.wrong > 0 => {
             return Err("verified, but a complete run is wrong for its kind".to_string());
         }
+        Some(explored) if plan.jobs.is_empty() => {
+            tally.recess.add(kind(&plan), verified, &explored)?;
+        }
         Some(explored) => {
             tally.add(&plan, verified, &explored);
             tally.premise.add(&plan, &automaton, verified, &row);
         }
     }
     Ok(())
+}
+
+/// Where the counts of the plan's kind stand.
+fn kind(plan: &Plan) -> usize {
+    match plan.kind {
+        Kind::Every => 0,
+        Kind::None => 1,
+    }
 }
 
 /// The row is the smallest sets, place by place.
@@ -187,10 +201,7 @@ impl Premise {
 
 impl Tally {
     fn add(&mut self, plan: &Plan, verified: bool, explored: &Explored) {
-        let kind = match plan.kind {
-            Kind::Every => 0,
-            Kind::None => 1,
-        };
+        let kind = kind(plan);
         self.plans += 1;
         self.configurations += explored.configurations;
         self.meetings += explored.meetings;
@@ -221,7 +232,8 @@ impl Tally {
                 2_500,
             ),
         ];
-        for (which, count, needed) in seen.into_iter().chain(self.premise.seen()) {
+        let others = self.premise.seen().into_iter().chain(self.recess.seen());
+        for (which, count, needed) in seen.into_iter().chain(others) {
             if count < needed {
                 return Err(format!(
                     "{what}: {which}: only {count}, {needed} are needed"
@@ -238,7 +250,7 @@ impl fmt::Display for Tally {
             out,
             "{} plans, {} configurations, {} meetings taken; by kind [every, none]: verified {:?}, \
              with a complete run {:?}, of these with meetings {:?}; inconclusive {:?}, with a wrong run {:?}; \
-             {} passed over; ordering edges: {}",
+             {} passed over; ordering edges: {}; plans without jobs: {}",
             self.plans,
             self.configurations,
             self.meetings,
@@ -248,7 +260,8 @@ impl fmt::Display for Tally {
             self.inconclusive,
             self.wrong,
             self.passed_over,
-            self.premise
+            self.premise,
+            self.recess
         )
     }
 }
@@ -288,10 +301,7 @@ mod tests {
 
     /// An answer that is verified whatever the sets.
     fn lenient(answer: Answer, _: &mut [u64]) -> Answer {
-        match answer {
-            Answer::Inconclusive(counts) => Answer::Verified(counts),
-            answer => answer,
-        }
+        verdict(true, answer)
     }
 
     /// The sets without the state that every run begins in.
@@ -308,31 +318,41 @@ mod tests {
         answer
     }
 
-    /// The smallest sets by the rules' words, with ordering edges that ask for this, and the verdict that they give; the counts are those
-    /// of the proved judge.
-    fn by_rules(plan: &[u8], text: Option<&[u8]>, row: &mut [u64], asked: Asked) -> Answer {
-        let counts = match traceflow::judge_by(plan, text, row) {
-            Answer::Verified(counts) | Answer::Inconclusive(counts) => counts,
-            refused => return refused,
-        };
+    /// A plan, and the automaton of the text or of its own pattern.
+    pub(super) fn read(plan: &[u8], text: Option<&[u8]>) -> (Plan, Automaton) {
         let plan = Plan::read(plan).unwrap();
         let items = match text {
             None => plan.items.clone(),
             Some(text) => reference::read_text(text, plan.alphabet).unwrap(),
         };
         let automaton = Automaton::of_items(&items, plan.alphabet).unwrap();
-        let sets = least(&plan, &automaton, asked);
-        row.copy_from_slice(&sets);
-        match is_verified(&plan, &automaton, &sets) {
-            true => Answer::Verified(counts),
-            false => Answer::Inconclusive(counts),
+        (plan, automaton)
+    }
+
+    /// This verdict with the counts of the answer, unless that is a refusal.
+    pub(super) fn verdict(verified: bool, answer: Answer) -> Answer {
+        match answer {
+            Answer::Inconclusive(counts) if verified => Answer::Verified(counts),
+            Answer::Verified(counts) if !verified => Answer::Inconclusive(counts),
+            answer => answer,
         }
     }
 
-    fn timid(answer: Answer, _: &mut [u64]) -> Answer {
-        match answer {
-            Answer::Verified(counts) => Answer::Inconclusive(counts),
-            answer => answer,
+    /// The smallest sets by the rules' words, with ordering edges that ask for this, and the verdict that they give; the counts are those
+    /// of the proved judge.
+    fn by_rules(plan: &[u8], text: Option<&[u8]>, row: &mut [u64], asked: Asked) -> Answer {
+        let answer = traceflow::judge_by(plan, text, row);
+        let (plan, automaton) = read(plan, text);
+        let sets = least(&plan, &automaton, asked);
+        row.copy_from_slice(&sets);
+        verdict(is_verified(&plan, &automaton, &sets), answer)
+    }
+
+    /// An answer that is verified for no plan with jobs, which have nodes.
+    fn timid(answer: Answer, row: &mut [u64]) -> Answer {
+        match row.is_empty() {
+            true => answer,
+            false => verdict(false, answer),
         }
     }
 

@@ -12,6 +12,8 @@ pub struct Small {
     pub text: Vec<u8>,
 }
 
+/// One in so many plans has no jobs.
+const RECESS: u32 = 11;
 /// Items of a pattern at most.
 const ITEMS: u32 = 9;
 /// Events are 0 to this one.
@@ -29,7 +31,7 @@ struct Sketch<'a> {
     string: Vec<u32>,
 }
 
-/// A plan of 1 to 4 jobs with 1 to 4 nodes each, mostly one that has a complete run.
+/// A plan of 1 to 4 jobs with 1 to 4 nodes each, mostly one that has a complete run; or one without jobs.
 pub fn small_plan(random: &mut Random) -> Option<Small> {
     let mut sketch = Sketch::with_jobs(random);
     for _ in 0..sketch.random.below(8) {
@@ -64,7 +66,11 @@ impl<'a> Sketch<'a> {
             items: vec![],
         };
         let mut first = vec![];
-        for _ in 0..1 + random.below(6).min(3) {
+        let jobs = match random.one_in(RECESS) {
+            true => 0,
+            false => 1 + random.below(6).min(3),
+        };
+        for _ in 0..jobs {
             let size = random.within(1..=4);
             let entry = random.below(size);
             let exit = if random.one_in(8) {
@@ -165,8 +171,11 @@ impl<'a> Sketch<'a> {
         }
     }
 
-    /// A step, call or accept that no run was laid out for.
+    /// A step, call or accept that no run was laid out for, if there is a job for it.
     fn strew(&mut self) {
+        if self.at.is_empty() {
+            return;
+        }
         let job = self.random.index(self.at.len());
         if self.draft.jobs[job].size == 1 {
             return;

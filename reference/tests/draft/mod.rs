@@ -89,6 +89,14 @@ impl Draft {
         }
     }
 
+    /// A plan without jobs (order 4).
+    pub fn no_jobs(alphabet: &[u64], items: &[Item]) -> Draft {
+        Draft {
+            jobs: vec![],
+            ..Draft::new(alphabet, items)
+        }
+    }
+
     pub fn p() -> Draft {
         Draft {
             steps: vec![[0, 1, 1]],

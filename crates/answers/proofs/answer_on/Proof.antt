@@ -20,6 +20,15 @@ final-set-requires c κs = search needs
 cast-t15 : tie.Need-cast-t15
 cast-t15 c = search needs
 
+cast-fill : tie.Need-cast-fill
+cast-fill c = search needs
+
+cast-fill-2 : tie.Need-cast-fill-2
+cast-fill-2 c = search needs
+
+cast-fill-3 : tie.Need-cast-fill-3
+cast-fill-3 c = search needs
+
 fill-requires : tie.Need-fill-requires
 fill-requires c κs = search needs
 
@@ -79,6 +88,9 @@ answer-on-spec =
     (tie.spec
     final-set-requires
     cast-t15
+    cast-fill
+    cast-fill-2
+    cast-fill-3
     fill-requires
     is-verified-requires
     verdict-of-requires
