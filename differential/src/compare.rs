@@ -165,8 +165,7 @@ fn broken_law(case: &Case, outcomes: &Outcomes) -> Option<String> {
 
 /// What is wrong with one outcome, under items that are none where they are not known.
 fn broken_by(case: &Case, items: &[Item], outcome: &Outcome) -> Option<String> {
-    broken_lending(case, outcome)
-        .or_else(|| recess_law::broken(&case.plan, items, &outcome.answer))
+    broken_lending(case, outcome).or_else(|| recess_law::broken(&case.plan, items, &outcome.answer))
 }
 
 /// A refusal leaves all that is lent. A verdict counts the pairs of its row and leaves the later places.

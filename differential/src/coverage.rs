@@ -97,11 +97,7 @@ impl Tally {
     }
 
     /// These refusals, then the verdicts.
-    fn asked(
-        &self,
-        refusals: impl IntoIterator<Item = u32>,
-        by: &str,
-    ) -> Vec<(String, u64)> {
+    fn asked(&self, refusals: impl IntoIterator<Item = u32>, by: &str) -> Vec<(String, u64)> {
         let refused = |refusal: u32| {
             let count = self.refused[refusal as usize];
             (format!("{by}refused {refusal}"), count)

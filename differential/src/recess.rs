@@ -83,7 +83,10 @@ mod tests {
             let plan = recess(&mut Random::for_plan(7, number)).encode();
             let answer = judge(&plan, &mut []);
             assert!(
-                matches!(answer, Answer::Refused(16) | Answer::Verified(_) | Answer::Inconclusive(_)),
+                matches!(
+                    answer,
+                    Answer::Refused(16) | Answer::Verified(_) | Answer::Inconclusive(_)
+                ),
                 "plan {number}: {answer:?}"
             );
         }
@@ -102,7 +105,11 @@ mod tests {
                     made += 1;
                 }
             }
-            assert_eq!(made > 0, REFUSALS.contains(&fault), "fault {fault}: {made} made");
+            assert_eq!(
+                made > 0,
+                REFUSALS.contains(&fault),
+                "fault {fault}: {made} made"
+            );
         }
     }
 }

@@ -1,18 +1,26 @@
 //! Laws about plans without jobs, or without nodes, that need no other implementation.
 
+use crate::case::SHORT_ROW;
 use crate::draft::{as_read, Item};
 use crate::layout::{kind, COUNTS, JOBS};
+use crate::recess::REFUSALS;
 use crate::runs::expression::has_empty_string;
-use traceflow::Answer;
+use traceflow::{Answer, Counts};
 
 /// What is wrong with the answer to the plan under these items; they are none where they are not known.
 pub fn broken(plan: &[u8], items: &[Item], answer: &Answer) -> Option<String> {
     if let Some(refusal) = told_by_head(plan) {
         let early = matches!(answer, Answer::Refused(given) if *given <= refusal);
-        return (!early).then(|| format!("refusal {refusal} applies by the head, or an earlier one"));
+        return (!early)
+            .then(|| format!("refusal {refusal} applies by the head, or an earlier one"));
     }
-    match JOBS.read(plan) {
-        0 => broken_verdict(plan, items, answer),
+    match (JOBS.read(plan), answer) {
+        (0, Answer::Refused(refusal)) => {
+            let never = *refusal <= SHORT_ROW && !REFUSALS.contains(refusal);
+            never.then(|| format!("refusal {refusal} never applies to a plan without jobs"))
+        }
+        (0, Answer::Verified(counts)) => broken_verdict(plan, items, true, counts),
+        (0, Answer::Inconclusive(counts)) => broken_verdict(plan, items, false, counts),
         _ => None,
     }
 }
@@ -32,19 +40,15 @@ fn told_by_head(plan: &[u8]) -> Option<u32> {
 
 /// The one run of a plan without jobs is the empty one: no jobs meet, nothing is ordered, no node holds a state, and the final set is
 /// {0}. The verdict tells whether the empty string suits items and kind.
-fn broken_verdict(plan: &[u8], items: &[Item], answer: &Answer) -> Option<String> {
-    let (verified, counts) = match answer {
-        Answer::Refused(_) => return None,
-        Answer::Verified(counts) => (true, counts),
-        Answer::Inconclusive(counts) => (false, counts),
-    };
+fn broken_verdict(plan: &[u8], items: &[Item], verified: bool, counts: &Counts) -> Option<String> {
     let nothing = [counts.meetings, counts.ordering, counts.pairs, counts.fill];
     if nothing != [0; 4] || counts.final_set != 1 {
         return Some("a plan without jobs has more than the empty run".to_string());
     }
     let belongs = has_empty_string(&as_read(items))?;
     let suits = belongs == (kind(plan) == 0);
-    (verified != suits).then(|| format!("the empty string suits a plan without jobs: {suits}"))
+    let does = if suits { "suits" } else { "does not suit" };
+    (verified != suits).then(|| format!("the empty string {does} the plan without jobs"))
 }
 
 #[cfg(test)]
@@ -54,7 +58,6 @@ mod tests {
     use crate::draft::{Arc, Draft, Job};
     use crate::random::Random;
     use crate::recess::recess;
-    use traceflow::Counts;
 
     /// Each way in which a verdict may be a little wrong: the other one, or another count.
     fn altered(answer: &Answer) -> Vec<Answer> {
@@ -84,7 +87,7 @@ mod tests {
 
     #[test]
     fn an_altered_verdict_is_found_out() {
-        let mut judged = 0;
+        let mut tried = 0;
         for number in 0..500 {
             let draft = recess(&mut Random::for_plan(7, number));
             let plan = draft.encode();
@@ -93,19 +96,20 @@ mod tests {
             for wrong in altered(&right) {
                 let found = broken(&plan, &draft.items, &wrong);
                 assert!(found.is_some(), "plan {number}: {wrong:?}");
-                judged += 1;
+                tried += 1;
             }
         }
-        assert!(judged > 1_000);
+        assert!(tried > 1_000);
     }
 
-    /// Whether every answer after this refusal is found out, and no other.
-    fn is_last(refusal: u32, draft: &Draft) -> bool {
+    /// The refusals that are found out if they are given to this plan.
+    fn found_out(draft: &Draft) -> Vec<u32> {
         let plan = draft.encode();
-        (1..=20).all(|given| {
-            let found = broken(&plan, &draft.items, &Answer::Refused(given)).is_some();
-            found == (given > refusal)
-        })
+        let found = |refusal: &u32| {
+            let answer = Answer::Refused(*refusal);
+            broken(&plan, &draft.items, &answer).is_some()
+        };
+        (1..=20).filter(found).collect()
     }
 
     #[test]
@@ -115,16 +119,18 @@ mod tests {
         let (from, to, label) = (0, 0, 0);
         let arc = Arc { from, to, label };
         let empty = recess(&mut Random::new(7));
-        let with = |change: &dyn Fn(&mut Draft)| {
+        let found_with = |change: &dyn Fn(&mut Draft)| {
             let mut draft = empty.clone();
             change(&mut draft);
-            draft
+            found_out(&draft)
         };
-        assert!(is_last(20, &empty));
-        assert!(is_last(5, &with(&|draft| draft.nodes = 1)));
-        assert!(is_last(5, &with(&|draft| draft.jobs.push(job.clone()))));
-        assert!(is_last(7, &with(&|draft| draft.steps.push(arc.clone()))));
-        assert!(is_last(7, &with(&|draft| draft.calls.push(arc.clone()))));
-        assert!(is_last(7, &with(&|draft| draft.accepts.push(arc.clone()))));
+        let after = |refusal: u32| Vec::from_iter(refusal + 1..=20);
+        assert_eq!(found_out(&empty), [6, 8, 9, 17]);
+        assert_eq!(found_with(&|draft| draft.nodes = 1), after(5));
+        assert_eq!(found_with(&|draft| draft.jobs.push(job.clone())), after(5));
+        assert_eq!(found_with(&|draft| draft.steps.push(arc.clone())), after(7));
+        assert_eq!(found_with(&|draft| draft.calls.push(arc.clone())), after(7));
+        let with_accept = found_with(&|draft| draft.accepts.push(arc.clone()));
+        assert_eq!(with_accept, after(7));
     }
 }

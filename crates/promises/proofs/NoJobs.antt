@@ -83,8 +83,8 @@ module _ (p : Plan) (r : Expression) (legal : Legal p) (none-of : p .jobs ≡ []
     final-reached sets s = (
       (λ i. ([], tt, empty-complete p legal none-of mustEnd, state-begins p r fits legal ∙ sym (in-single 0 s (subst (In s) (final-zero sets) i)))),
       (λ h.
-      let start : stateAfter p r (h .0) ≡ 0 = ap (stateAfter p r) (one-run p legal none-of (begin p) (h .0) (h .1)) ∙ state-begins p r fits legal in
-      subst (In s) (sym (final-zero sets)) (subst (λ (x : ℕ). In x 1) (sym start ∙ h .3) (digit-self 0))),
+          let start : stateAfter p r (h .0) ≡ 0 = ap (stateAfter p r) (one-run p legal none-of (begin p) (h .0) (h .1)) ∙ state-begins p r fits legal in
+          subst (In s) (sym (final-zero sets)) (subst (λ (x : ℕ). In x 1) (sym start ∙ h .3) (digit-self 0))),
     )
 
     start-accepts : In 0 (accepting p r) ↔ Language r []

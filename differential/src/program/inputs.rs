@@ -29,14 +29,14 @@ const REFUSED: usize = 15;
 const JUDGED: usize = 60;
 /// The same with a text, for each answer.
 const TYPED: usize = 4;
-/// Plans without jobs, for each answer, with a text and without.
-const RECESS: usize = 4;
-/// Such plans that are drawn to find them, each refusal aimed at in turn.
-const RECESS_DRAWN: u32 = 1_000;
 /// One in so many of them is written in pieces.
 const IN_PIECES: usize = 4;
 /// Plans of the seed that are looked through for them.
 const LOOKED_THROUGH: u64 = 3_000;
+/// Plans without jobs, for each answer, with a text and without.
+const RECESS: usize = 4;
+/// Such plans that are drawn to find them, each refusal aimed at in turn.
+const RECESS_DRAWN: u32 = 1_000;
 /// The largest plans, for each verdict.
 const LARGEST: usize = 3;
 /// Lengths around that which the program reads, one above that of a pipe too.

@@ -17,7 +17,7 @@ impl Recess {
             return Err("a plan without jobs has not the empty run alone".to_string());
         }
         if !verified && explored.wrong == 0 {
-            return Err("inconclusive, but the one run of a plan without jobs is right".to_string());
+            return Err("inconclusive, but the one run, without jobs, is right".to_string());
         }
         match verified {
             true => self.verified[kind] += 1,
@@ -29,8 +29,16 @@ impl Recess {
     pub fn seen(&self) -> [(&'static str, usize, usize); 2] {
         let least = |counts: [usize; 2]| counts[0].min(counts[1]);
         [
-            ("verified plans without jobs of one kind", least(self.verified), 250),
-            ("inconclusive plans without jobs of one kind", least(self.inconclusive), 250),
+            (
+                "verified plans without jobs of one kind",
+                least(self.verified),
+                250,
+            ),
+            (
+                "inconclusive plans without jobs of one kind",
+                least(self.inconclusive),
+                250,
+            ),
         ]
     }
 }
@@ -60,9 +68,9 @@ mod tests {
             if !plan.jobs.is_empty() || text.is_some() != by_text {
                 return answer;
             }
-            let accepted = plan.kind == Kind::Every;
-            let mut states = final_set(&automaton);
-            verdict(states.all(|state| automaton.accepts(state) == accepted), answer)
+            let every = plan.kind == Kind::Every;
+            let suits = |state| automaton.accepts(state) == every;
+            verdict(final_set(&automaton).all(suits), answer)
         };
         check_with(7, judge).unwrap_err()
     }
@@ -79,7 +87,7 @@ mod tests {
     fn a_final_set_of_all_states_is_found_out() {
         for by_text in [false, true] {
             let found = found(by_text, |automaton| 0..automaton.states());
-            assert!(found.contains("inconclusive, but the one run of a plan without jobs is right"));
+            assert!(found.contains("inconclusive, but the one run, without jobs, is right"));
         }
     }
 }
