@@ -34,7 +34,7 @@ fn of_p(name: &[u8], which: u8, text: &[u8], places: usize)
     }
 }
 
-// Plans with larger alphabets.
+// Plans with larger alphabets, and one without jobs.
 fn of_others(name: &[u8], which: u8, text: &[u8], places: usize)
     requires { ⌜ places ≤ 8 ⌝ }
 {
@@ -61,6 +61,15 @@ fn of_others(name: &[u8], which: u8, text: &[u8], places: usize)
         replay(
             name,
             b"\x08\x08\x02\x00\x00\x00\x3b\x00\x00\x00\x00\x08\x00\x04\x00\x04\x20\x38\x00\x00\x00\x21\x80\x00\x00\x00\x8e\x00\x00\x00\x04\x70\x00\x00\x00\x23\x80\x00\x00\x01\x1c\x00\x00\x00\x08\xe0\x00\x00\x00\x40",
+            text,
+            places,
+        );
+    }
+    // no jobs, the alphabet and pattern of P
+    if which == b'R' {
+        replay(
+            name,
+            b"\x00\x00\x00\x00\x00\x00\x06\x00\x00\x00\x00\x30\x00\x00\x00\x00",
             text,
             places,
         );
