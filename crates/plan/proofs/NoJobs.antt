@@ -1,8 +1,8 @@
 -- Plans without jobs. Document 02, order 4: "5 answers jobs 0 with nodes or nodes 0 with jobs", steps, calls and accepts are answered 7, and
--- what is left has no nodes and no moves. Assumes nothing.
+-- what is left has no nodes and none of these. Assumes nothing.
 use mathlib.Core.Path.{_≡_, refl, sym, ap, _∙_}
 use mathlib.Core.Bool.{true, or-true}
-use mathlib.Core.List.{List, [], _∷_, List·Memᴰ, List·Memᴰ·head, Memᴰ·append-left, Memᴰ·append-right}
+use mathlib.Core.List.{List, [], _∷_, List·Memᴰ, List·Memᴰ·head}
 use Prim.Native.Nat.{ℕ, zero, suc, _+_}
 use native.Mathlib.Nat.{not-suc-le-zero}
 use native.Mathlib.Omega.{arith}
@@ -12,7 +12,7 @@ use Rattle.sections.specs.Plan.{Job, Arc, Plan}
 use Rattle.sections.specs.Tables.{sizes}
 use Rattle.plan.specs.Checks.{anyFrom, any}
 use Rattle.plan.specs.Nodes.{jobOf, total}
-use Rattle.plan.specs.Refusals.{sizesWrong, apart, splitEnds, links, arcs}
+use Rattle.plan.specs.Refusals.{sizesWrong, apart, splitEnds, arcs}
 use Rattle.plan.specs.Legal.{Legal}
 
 -- ---- 5
@@ -40,7 +40,8 @@ arcs-without-jobs p e a l h = rw (e, h, arc-apart (jobOf p) a)
 
 -- ---- what is accepted
 
-none-there : {A : Type 0} (l : List A) → ((a : A) → List·Memᴰ a l → ⊥) → l ≡ []
+-- a list without members
+pub none-there : {A : Type 0} (l : List A) → ((a : A) → List·Memᴰ a l → ⊥) → l ≡ []
 none-there [] h = refl
 none-there (a ∷ l) h = absurd (h a (List·Memᴰ·head refl))
 
@@ -49,11 +50,5 @@ module _ (p : Plan) (legal : Legal p) (none : p .jobs ≡ []) where
   unfolding total
   no-nodes = sym (legal .sizes) ∙ ap (λ (l : List Job). total (sizes l)) none
 
-  no-arcs : (a : Arc) → List·Memᴰ a (arcs p) → ⊥
+  pub no-arcs : (a : Arc) → List·Memᴰ a (arcs p) → ⊥
   no-arcs a m = not-suc-le-zero (rw no-nodes at (legal .inside a m .from))
-
-  pub no-steps : p .steps ≡ []
-  no-steps = none-there (p .steps) (λ a m. no-arcs a (Memᴰ·append-left (links p) m))
-
-  pub no-calls : p .calls ≡ []
-  no-calls = none-there (p .calls) (λ a m. no-arcs a (Memᴰ·append-right (p .steps) (Memᴰ·append-left (p .accepts) m)))

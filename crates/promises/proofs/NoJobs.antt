@@ -35,11 +35,11 @@ use Rattle.verdict.specs.declared.Answer.{Answer}
 use Rattle.verdict.specs.Verdict.{together, finalOf, Verified, fillOf}
 use Rattle.verdict.specs.Answer.{verdictOf}
 use Rattle.verdict.proofs.Rounded.{fill-no-nodes}
-use Rattle.verdict.proofs.Final.{held-together, held-by-none, in-final, final-no-jobs}
-use Rattle.promises.specs.Order.{Pattern, expressionBy}
+use Rattle.verdict.proofs.Final.{AtExits, held-together, held-by-none, in-final, final-no-jobs}
+use Rattle.promises.specs.Order.{Pattern, expressionBy, shortRow}
 use Rattle.promises.specs.Property.{mustEnd, numbered, states, table, accepting, stateAfter}
 use Rattle.promises.specs.Judged.{Suits, pairs, finalSet, countsOf, Judged}
-use Rattle.promises.proofs.Sound.{states-known, moves-below, state-begins, state-accepts}
+use Rattle.promises.proofs.Sound.{states-known, moves-below, state-begins, state-stays, state-accepts}
 use Rattle.promises.proofs.Evaluate.{few-states, legal-plan}
 use Rattle.promises.proofs.Narrower.{no-refusal}
 
@@ -72,10 +72,6 @@ module _ (p : Plan) (r : Expression) (legal : Legal p) (none-of : p .jobs ≡ []
         ends = final-zero sets i;
       }
 
-  -- "the row may have no places": 17 is never said
-  pub never-short : (places : ℕ) → ltb places (p .nodes) ≡ false
-  never-short places = ap (ltb places) (no-nodes p legal none-of) ∙ le-ltb places 0 (omega arith)
-
   module _ (fits : statesOf r (p .alphabet) ≡ some (numbered p r)) where
     -- the final set is what the complete runs have reached
     pub final-reached : (sets : List ℕ) (s : ℕ)
@@ -83,7 +79,7 @@ module _ (p : Plan) (r : Expression) (legal : Legal p) (none-of : p .jobs ≡ []
     final-reached sets s = (
       (λ i. ([], tt, empty-complete p legal none-of mustEnd, state-begins p r fits legal ∙ sym (in-single 0 s (subst (In s) (final-zero sets) i)))),
       (λ h.
-          let start : stateAfter p r (h .0) ≡ 0 = ap (stateAfter p r) (one-run p legal none-of (begin p) (h .0) (h .1)) ∙ state-begins p r fits legal in
+          let start = state-stays p r fits legal none-of (h .0) (h .1) in
           subst (In s) (sym (final-zero sets)) (subst (λ (x : ℕ). In x 1) (sym start ∙ h .3) (digit-self 0))),
     )
 
@@ -96,6 +92,10 @@ module _ (p : Plan) (r : Expression) (legal : Legal p) (none-of : p .jobs ≡ []
         (start-suits (p .kind) (accepting p r) (Language r []) start-accepts)
 
 -- ---- the order's sentence
+
+-- "the row may have no places": 17 is never said
+pub never-short : (b : List ℕ) → Legal (planOf b) → planOf b .jobs ≡ [] → (places : ℕ) → shortRow places b ≡ false
+never-short b legal none-of places = ap (ltb places) (no-nodes (planOf b) legal none-of) ∙ le-ltb places 0 (omega arith)
 
 -- the values of the verdict, the row, and the verdict itself
 pub record OfNoJobs (p : Plan) (r : Expression) (before after : List ℕ) (verified : Bool) (counts : Counts) : Type 0 where
@@ -127,20 +127,25 @@ without-jobs q b before a after j none-of verified counts e =
 -- some node holds
 module _ (p : Plan) (r : Expression) (legal : Legal p) (fits : statesOf r (p .alphabet) ≡ some (numbered p r)) (M : List ℕ)
     (sets : Sets p (table p r) edgeRule M) where
-  pub final-of-reached : (s : ℕ)
-      → In s (finalSet p M) ↔ (((s ≡ 0) ⊎ ((n : ℕ) × In s (place M n))) × ((j : ℕ) → j < length (p .jobs) → mustEnd j ≡ true → In s (place M (exitOf p j))))
+  -- s stands at all exits
+  abbrev Ends : ℕ → Type 0
+  Ends = AtExits (place M) (exitOf p) mustEnd (length (p .jobs))
+
+  -- it is state 0, or some node holds it
+  abbrev Somewhere : ℕ → Type 0
+  Somewhere s = (s ≡ 0) ⊎ ((n : ℕ) × In s (place M n))
+
+  pub final-of-reached : (s : ℕ) → In s (finalSet p M) ↔ (Somewhere s × Ends s)
   final-of-reached s = (
     (λ i. let f = in-final (place M) (exitOf p) mustEnd (length (p .jobs)) s .0 i in (somewhere (p .jobs) refl (f .0) (f .1), f .1)),
     (λ h. in-final (place M) (exitOf p) mustEnd (length (p .jobs)) s .1 (held (p .jobs) refl (h .0) (h .1), h .1)),
   )
     where
-      somewhere : (l : List Job) → p .jobs ≡ l → In s (together (length (p .jobs)))
-          → ((j : ℕ) → j < length (p .jobs) → mustEnd j ≡ true → In s (place M (exitOf p j))) → (s ≡ 0) ⊎ ((n : ℕ) × In s (place M n))
+      somewhere : (l : List Job) → p .jobs ≡ l → In s (together (length (p .jobs))) → Ends s → Somewhere s
       somewhere [] e i h = inl (held-by-none s .0 (subst (λ (x : List Job). In s (together (length x))) e i))
       somewhere (j ∷ l) e i h = inr (exitOf p 0, h 0 (subst (λ (x : List Job). 0 < length x) (sym e) (omega arith)) refl)
 
-      held : (l : List Job) → p .jobs ≡ l → (s ≡ 0) ⊎ ((n : ℕ) × In s (place M n))
-          → ((j : ℕ) → j < length (p .jobs) → mustEnd j ≡ true → In s (place M (exitOf p j))) → In s (together (length (p .jobs)))
+      held : (l : List Job) → p .jobs ≡ l → Somewhere s → Ends s → In s (together (length (p .jobs)))
       held [] e from h =
           subst (λ (x : List Job). In s (together (length x))) (sym e)
           (held-by-none s .1 (⊎-elim (λ z. z) (λ n. absurd (no-state p legal e (byTable p (table p r)) edgeRule (sets .tell (n .0) s .0 (n .1)))) from))

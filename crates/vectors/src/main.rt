@@ -153,7 +153,7 @@ fn ordering_edges() {
     );
 }
 
-// Recess days: plans without jobs, and those that come near.
+// Recess days: plans without jobs.
 fn no_jobs() {
     // no jobs, an empty alphabet, the empty string
     replay(
@@ -191,6 +191,10 @@ fn no_jobs() {
         b"\x00\x00\x00\x00\x00\x08\x04\x00\x00\x00\x00\x40\x00",
         0,
     );
+}
+
+// Plans that come near to one without jobs.
+fn nearly_no_jobs() {
     // jobs 0 with nodes 1
     replay(
         b"nodes without jobs",
@@ -209,7 +213,7 @@ fn no_jobs() {
         b"\x00\x00\x02\x00\x00\x00\x04\x00\x00\x00\x00\x00\x00\x00\x00",
         2,
     );
-    // the first of these with its last filling bit set
+    // no jobs, an empty alphabet, the empty string, and the last filling bit set
     replay(
         b"no jobs, and a filling bit",
         b"\x00\x00\x00\x00\x00\x00\x04\x00\x00\x00\x01\x00",
@@ -309,6 +313,7 @@ fn main() {
     more_jobs();
     ordering_edges();
     no_jobs();
+    nearly_no_jobs();
     refused_jobs();
     refused_steps();
     refused_items();
