@@ -53,7 +53,7 @@ pub fn judge_text(plan: &[u8], text: &[u8], row: &mut [u64]) -> Answer {
 }
 
 /// The place of the pattern's bytes in the plan, `0..0` where one of the
-/// refusals 1 to 16 applies.
+/// refusals 1 to 16 applies, or 21 (order 5).
 pub fn pattern_part(plan: &[u8]) -> Range<usize> {
     match accept(plan) {
         Ok((accepted, _)) => accepted.pattern..plan.len(),
@@ -61,15 +61,15 @@ pub fn pattern_part(plan: &[u8]) -> Range<usize> {
     }
 }
 
-/// The plan and its automaton, or the first of the refusals 1 to 16.
+/// The plan and its automaton, or the first of the refusals 1 to 16 and 21.
 fn accept(bytes: &[u8]) -> Result<(Plan, Automaton), u32> {
     let plan = Plan::read(bytes)?;
     let automaton = Automaton::of(&plan)?;
     Ok((plan, automaton))
 }
 
-/// The plan and the automaton of a text, or the first refusal: 1 to 15 for
-/// the plan with its own items, then 18 to 20 and 16 for the text.
+/// The plan and the automaton of a text, or the first refusal: 1 to 15 and 21
+/// for the plan with its own items, then 18 to 20 and 16 for the text.
 fn accept_text(bytes: &[u8], text: &[u8]) -> Result<(Plan, Automaton), u32> {
     let plan = Plan::read(bytes)?;
     let items = read_text(text, plan.alphabet)?;
@@ -102,10 +102,11 @@ fn count(plan: &Plan, automaton: &Automaton, graph: &Graph, family: &Family) -> 
     let states = automaton.states() as u32;
     // The pairs are the tally as it ended (order 2).
     let pairs = family.pairs;
-    // The final set is the intersection of the sets at all exits. Without jobs
-    // there is no exit, and "the one run is the empty one: the final set is
-    // {0}" (order 4).
-    let exits = plan.jobs.iter().map(|job| family.sets[job.exit]);
+    // The final set is the intersection of the sets at all exits, of jobs that
+    // do not stand only (order 5). Without jobs there is no exit, and "the one
+    // run is the empty one: the final set is {0}" (order 4).
+    let ends = plan.jobs.iter().filter_map(Job::end);
+    let exits = ends.map(|exit| family.sets[exit]);
     let common = exits.reduce(|common, set| common & set);
     Counts {
         states,

@@ -1,4 +1,4 @@
-//! The bit-packed plan and the refusals 1 to 15.
+//! The bit-packed plan and the refusals 1 to 15 and 21.
 
 use crate::bits::BitReader;
 
@@ -23,18 +23,25 @@ pub enum Item {
     Star,
 }
 
-/// A job owns the nodes `first` to `first + size - 1`.
+/// A job owns the nodes `first` to `first + size - 1`. The exit of a standing
+/// job "repeats its entry and ends nothing" (order 5).
 #[derive(Clone, Copy, Debug, PartialEq, Eq)]
 pub struct Job {
     pub first: usize,
     pub size: usize,
     pub entry: usize,
     pub exit: usize,
+    pub standing: bool,
 }
 
 impl Job {
     fn holds(&self, node: usize) -> bool {
         node >= self.first && node - self.first < self.size
+    }
+
+    /// The node where the job ends, `None` for a standing job (order 5).
+    pub(crate) fn end(&self) -> Option<usize> {
+        (!self.standing).then_some(self.exit)
     }
 }
 
@@ -83,8 +90,8 @@ struct Head {
 }
 
 impl Plan {
-    /// Reads a plan, or gives the number of the first refusal, 1 to 15, that
-    /// applies.
+    /// Reads a plan, or gives the number of the first refusal, 1 to 15 or 21,
+    /// that applies.
     pub fn read(bytes: &[u8]) -> Result<Plan, u32> {
         // Refusal 1: fewer than 11 bytes, the length of head and alphabet.
         if bytes.len() < 11 {
@@ -139,10 +146,17 @@ impl Plan {
         if sum != self.nodes || self.jobs.iter().any(|job| job.size == 0) {
             return Err(5);
         }
-        // Refusal 6: an entry or exit that is not a node of its job.
+        // Refusal 6: an entry or exit that is not a node of its job. It "also
+        // answers an exit field that differs" in a standing job (order 5).
         let inside = |job: &Job| job.holds(job.entry) && job.holds(job.exit);
-        if !self.jobs.iter().all(inside) {
+        let differs = |job: &Job| job.standing && job.exit != job.entry;
+        if self.jobs.iter().any(|job| !inside(job) || differs(job)) {
             return Err(6);
+        }
+        // Refusal 21: "when there are jobs and all of them stand, right after
+        // 6" (order 5).
+        if !self.jobs.is_empty() && self.jobs.iter().all(|job| job.standing) {
+            return Err(21);
         }
         Ok(())
     }
@@ -156,8 +170,9 @@ impl Plan {
         if !self.ends().all(in_one_job) {
             return Err(7);
         }
-        // Refusal 8: a step leaves the exit of its job.
-        let leaves_exit = |(from, _)| job_from(from).is_some_and(|job| job.exit == from);
+        // Refusal 8: a step leaves the exit of its job. It "passes standing jobs
+        // over" (order 5).
+        let leaves_exit = |(from, _)| job_from(from).is_some_and(|job| job.end() == Some(from));
         if self.ends().any(leaves_exit) {
             return Err(8);
         }
@@ -215,7 +230,8 @@ fn read_each<T>(
     (0..count).map(|_| read(reader)).collect()
 }
 
-/// Nodes are numbered from 0 through the jobs in turn.
+/// Nodes are numbered from 0 through the jobs in turn. The last bit of a job's
+/// record, "26 bits in all", is 1 for a standing job (order 5).
 fn read_jobs(reader: &mut BitReader, count: usize) -> Option<Vec<Job>> {
     let mut jobs = Vec::with_capacity(count);
     let mut first = 0;
@@ -225,6 +241,7 @@ fn read_jobs(reader: &mut BitReader, count: usize) -> Option<Vec<Job>> {
             size: reader.number(9)?,
             entry: reader.number(8)?,
             exit: reader.number(8)?,
+            standing: reader.take(1)? == 1,
         };
         first += job.size;
         jobs.push(job);

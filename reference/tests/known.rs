@@ -163,7 +163,7 @@ fn plan_p_refused() {
     assert_refused(&jobs, 2);
     assert_refused(&P[..16], 3);
     let mut filling = P;
-    filling[16] = 0x21;
+    filling[16] = 0x11;
     assert_refused(&filling, 4);
     let size = Draft {
         jobs: vec![[1, 0, 1]],

@@ -3,182 +3,14 @@
 
 mod dice;
 mod draft;
+mod naive;
 
 use std::collections::HashSet;
 
 use dice::Dice;
-use draft::{counts, events, set, Draft};
-use reference::{Answer, Automaton, Item};
-
-/// When an ordering edge hands on a state's move.
-#[derive(Clone, Copy, PartialEq)]
-enum Rule {
-    /// As 01 had it: always.
-    Always,
-    /// Order 3: if the node holds the state as it was before the move.
-    IfHeld,
-}
-
-/// A step or meeting as the naive side sees it: from, to and job of each side.
-struct Move {
-    sides: Vec<(usize, usize, usize)>,
-    event: u64,
-    watched: bool,
-}
-
-/// The rules written once more, from the draft and not from its bytes.
-struct Naive {
-    /// For each node its job.
-    jobs: Vec<usize>,
-    moves: Vec<Move>,
-    entries: Vec<usize>,
-    exits: Vec<usize>,
-    automaton: Automaton,
-    kind: u64,
-}
-
-impl Naive {
-    fn of(draft: &Draft) -> Naive {
-        let numbered = draft.jobs.iter().enumerate();
-        let jobs: Vec<usize> = numbered
-            .flat_map(|(number, job)| vec![number; job[0] as usize])
-            .collect();
-        let side = |[from, to, _]: [u64; 3]| (from as usize, to as usize, jobs[from as usize]);
-        let mut lists: Vec<_> = draft
-            .steps
-            .iter()
-            .map(|&step| (vec![side(step)], step[2]))
-            .collect();
-        for &call in &draft.calls {
-            for &accept in &draft.accepts {
-                let sides = vec![side(call), side(accept)];
-                if call[2] == accept[2] && sides[0].2 != sides[1].2 {
-                    lists.push((sides, draft.channels[call[2] as usize]));
-                }
-            }
-        }
-        let moves = lists.into_iter().map(|(sides, event)| Move {
-            sides,
-            event,
-            watched: draft.alphabet.contains(&event),
-        });
-        let alphabet = set(&draft.alphabet) as u32;
-        Naive {
-            moves: moves.collect(),
-            entries: draft.jobs.iter().map(|job| job[1] as usize).collect(),
-            exits: draft.jobs.iter().map(|job| job[2] as usize).collect(),
-            automaton: Automaton::of_items(&draft.items, alphabet).unwrap(),
-            kind: draft.kind,
-            jobs,
-        }
-    }
-
-    fn moved(&self, state: usize, each: &Move) -> usize {
-        if each.watched {
-            self.automaton.next(state, each.event as u32)
-        } else {
-            state
-        }
-    }
-
-    /// The ordering edges of a move: the nodes they lead to.
-    fn ordering<'a>(&'a self, each: &'a Move) -> impl Iterator<Item = usize> + 'a {
-        let outside =
-            move |&node: &usize| each.sides.iter().all(|&(_, _, job)| job != self.jobs[node]);
-        (0..self.jobs.len()).filter(move |node| each.watched && outside(node))
-    }
-
-    fn edges(&self) -> usize {
-        let edges = self.moves.iter().map(|each| self.ordering(each).count());
-        edges.sum()
-    }
-
-    /// The smallest sets: all rules over all moves, states and nodes, again
-    /// and again until nothing is added.
-    fn sets(&self, rule: Rule) -> Vec<u64> {
-        let mut sets = vec![0; self.jobs.len()];
-        for &entry in &self.entries {
-            sets[entry] = 1;
-        }
-        loop {
-            let before = sets.clone();
-            for each in &self.moves {
-                for state in 0..self.automaton.states() {
-                    self.apply(rule, each, state, &mut sets);
-                }
-            }
-            if sets == before {
-                return sets;
-            }
-        }
-    }
-
-    fn apply(&self, rule: Rule, each: &Move, state: usize, sets: &mut [u64]) {
-        let holds = |sets: &[u64], node: usize| sets[node] & 1 << state != 0;
-        if !each.sides.iter().all(|&(from, _, _)| holds(sets, from)) {
-            return;
-        }
-        let moved = 1 << self.moved(state, each);
-        for &(_, to, _) in &each.sides {
-            sets[to] |= moved;
-        }
-        for node in self.ordering(each) {
-            if rule == Rule::Always || holds(sets, node) {
-                sets[node] |= moved;
-            }
-        }
-    }
-
-    fn final_set(&self, sets: &[u64]) -> u64 {
-        // Order 4: without jobs the one run is the empty one.
-        if self.exits.is_empty() {
-            return set(&[0]);
-        }
-        let states = 0..self.automaton.states() as u64;
-        let at_all = |state: &u64| self.exits.iter().all(|&exit| sets[exit] >> state & 1 == 1);
-        set(&states.filter(at_all).collect::<Vec<_>>())
-    }
-
-    /// Order 4: without nodes there is nothing to fill.
-    fn fill(&self, pairs: u32) -> u32 {
-        let whole = (self.jobs.len() * self.automaton.states()) as u32;
-        if whole == 0 {
-            return 0;
-        }
-        (100 * pairs + whole / 2) / whole
-    }
-
-    /// A state that a complete run may have reached.
-    fn right(&self, state: usize) -> bool {
-        self.automaton.accepts(state) == (self.kind == draft::EVERY)
-    }
-
-    fn verified(&self, sets: &[u64]) -> bool {
-        let last = self.final_set(sets);
-        (0..self.automaton.states()).all(|state| last >> state & 1 == 0 || self.right(state))
-    }
-
-    /// Everything that runs reach: a node for each job and the state.
-    fn reached(&self) -> HashSet<(Vec<usize>, usize)> {
-        let mut todo = vec![(self.entries.clone(), 0)];
-        let mut reached = HashSet::new();
-        while let Some((nodes, state)) = todo.pop() {
-            if !reached.insert((nodes.clone(), state)) {
-                continue;
-            }
-            for each in &self.moves {
-                if each.sides.iter().all(|&(from, _, job)| nodes[job] == from) {
-                    let mut next = nodes.clone();
-                    for &(_, to, job) in &each.sides {
-                        next[job] = to;
-                    }
-                    todo.push((next, self.moved(state, each)));
-                }
-            }
-        }
-        reached
-    }
-}
+use draft::{counts, events, Draft};
+use naive::{Naive, Rule};
+use reference::{Answer, Item};
 
 /// The crate's verdict against the naive one under order 3. Gives whether the
 /// plan is verified, and whether it would be under 01's rule.
@@ -443,92 +275,19 @@ fn inconclusive_now_as_before() {
     assert!(Naive::of(&draft).reached().iter().any(wrong));
 }
 
-impl Dice {
-    fn any_of(&mut self, events: &[u64]) -> Vec<u64> {
-        let thrown = events.iter().copied();
-        thrown.filter(|_| self.below(2) == 0).collect()
-    }
-
-    /// Postfix items, brackets nested at most so deep.
-    fn pattern(&mut self, depth: u64, alphabet: &[u64]) -> Vec<Item> {
-        let operator = match self.below(if depth == 0 { 4 } else { 10 }) {
-            0 => return vec![Item::Empty],
-            1..=3 => return vec![events(&self.any_of(alphabet))],
-            4..=6 => Item::Sequence,
-            7..=8 => Item::Choice,
-            _ => Item::Star,
-        };
-        let mut items = self.pattern(depth - 1, alphabet);
-        if operator != Item::Star {
-            items.extend(self.pattern(depth - 1, alphabet));
-        }
-        items.push(operator);
-        items
-    }
-
-    /// Up to so many entries of two ends in one job, not from its exit, and a
-    /// third number below the bound. None without jobs.
-    fn ends(&mut self, most: u64, jobs: &[[u64; 3]], bound: u64) -> Vec<[u64; 3]> {
-        let mut ends = vec![];
-        if jobs.is_empty() {
-            return ends;
-        }
-        for _ in 0..self.below(most + 1) {
-            let job = self.below(jobs.len() as u64) as usize;
-            let first: u64 = jobs[..job].iter().map(|job| job[0]).sum();
-            let [size, _, exit] = jobs[job];
-            let [from, to] = [0; 2].map(|_| first + self.below(size));
-            if from != exit {
-                ends.push([from, to, self.below(bound)]);
-            }
-        }
-        ends
-    }
-
-    /// A plan of up to four jobs of up to four nodes each.
-    fn small_plan(&mut self) -> Draft {
-        self.plan(4, 4, 8)
-    }
-
-    /// A plan of at most so many jobs, nodes of each job and local steps. One
-    /// in sixteen has no jobs.
-    fn plan(&mut self, most_jobs: u64, most_nodes: u64, most_steps: u64) -> Draft {
-        let mut jobs = vec![];
-        let mut first = 0;
-        let count = match self.below(16) {
-            0 => 0,
-            _ => 1 + self.below(most_jobs),
-        };
-        for _ in 0..count {
-            let size = 1 + self.below(most_nodes);
-            jobs.push([size, first + self.below(size), first + self.below(size)]);
-            first += size;
-        }
-        let mut alphabet = self.any_of(&[1, 2, 3]);
-        alphabet.push(4);
-        let items = self.pattern(3, &alphabet);
-        let channels: Vec<_> = (0..=self.below(3)).map(|_| self.below(5)).collect();
-        Draft {
-            kind: self.below(2),
-            steps: self.ends(most_steps, &jobs, 5),
-            calls: self.ends(most_steps / 2, &jobs, channels.len() as u64),
-            accepts: self.ends(most_steps / 2, &jobs, channels.len() as u64),
-            jobs,
-            channels,
-            ..Draft::new(&alphabet, &items)
-        }
-    }
-}
-
 #[test]
 fn small_plans_thrown_at_random() {
     let mut dice = Dice(3);
     let (mut gained, mut still, mut without_jobs) = (0, 0, [0; 2]);
+    let mut standing = [0; 2];
     for _ in 0..20_000 {
         let draft = dice.small_plan();
         let answer = compare(&draft);
         if draft.jobs.is_empty() {
             without_jobs[usize::from(answer.0)] += 1;
+        }
+        if !draft.standing.is_empty() {
+            standing[usize::from(answer.0)] += 1;
         }
         match answer {
             (true, false) => gained += 1,
@@ -540,6 +299,7 @@ fn small_plans_thrown_at_random() {
     assert!(gained > 100 && still > 1_000, "{gained} {still}");
     // Inconclusive, verified.
     assert!(without_jobs.iter().all(|&plans| plans > 100));
+    assert!(standing.iter().all(|&plans| plans > 1_000), "{standing:?}");
 }
 
 #[test]
@@ -591,7 +351,7 @@ fn runs_of_small_plans() {
         }
         for (nodes, state) in reached {
             assert!(nodes.iter().all(|&node| row[node] >> state & 1 == 1));
-            if nodes == naive.exits && matches!(answer, Answer::Verified(_)) {
+            if naive.complete(&nodes) && matches!(answer, Answer::Verified(_)) {
                 assert!(naive.right(state));
             }
         }

@@ -11,7 +11,7 @@ use Rattle.sections.specs.Layout.{headOf, patternAt, planOf}
 use Rattle.plan.specs.Checks.{first, anyFrom}
 use Rattle.plan.specs.Nodes.{ownersFrom, total}
 use Rattle.plan.specs.Refusals.{countsOutside, order}
-use Rattle.plan.proofs.Cases.{P, Fields, packed, head, job, step, channel, link, one, agree}
+use Rattle.plan.proofs.Cases.{P, Fields, packed, head, job, service, step, channel, link, one, agree}
 use Rattle.reader.specs.Reading.{accepted, answered, readingOf}
 
 -- ---- plan P of document 01
@@ -22,7 +22,7 @@ pub P-says : planOf P ≡ record {
   kind = Every;
   items = 1;
   alphabet = 2 ^ 1;
-  jobs = record { size = 2; entry = 0; exit = 1 } ∷ [];
+  jobs = record { size = 2; entry = 0; exit = 1; standing = 0 } ∷ [];
   steps = record { from = 0; to = 1; label = 1 } ∷ [];
   channels = [];
   calls = [];
@@ -31,7 +31,7 @@ pub P-says : planOf P ≡ record {
 unfolding bitsOf valueFrom fieldAt eventsFrom eventsAt row planOf
 P-says = refl
 
--- its sections take 54 + 31 + 25 + 21 bits, and so 17 bytes
+-- its sections take 54 + 31 + 26 + 21 bits, and so 17 bytes
 pub P-pattern : patternAt (headOf P) ≡ 17
 unfolding bitsOf valueFrom fieldAt
 P-pattern = refl
@@ -92,7 +92,7 @@ pub T-says : planOf T ≡ record {
   kind = Every;
   items = 1;
   alphabet = 2 ^ 1;
-  jobs = record { size = 3; entry = 0; exit = 2 } ∷ record { size = 3; entry = 3; exit = 5 } ∷ [];
+  jobs = record { size = 3; entry = 0; exit = 2; standing = 0 } ∷ record { size = 3; entry = 3; exit = 5; standing = 0 } ∷ [];
   steps = record { from = 0; to = 1; label = 1 } ∷ record { from = 4; to = 5; label = 3 } ∷ [];
   channels = 2 ∷ [];
   calls = record { from = 1; to = 2; label = 0 } ∷ [];
@@ -113,9 +113,9 @@ known =
     ∷ (take 10 P, some 1)  -- with 10 bytes
     ∷ (set P 0 0x88, some 2)  -- with 17 jobs
     ∷ (take 16 P, some 3)  -- with 16 bytes
-    ∷ (set P 16 0x21, some 4)  -- its byte 20 made 21
+    ∷ (set P 16 0x11, some 4)  -- its byte 10 made 11
     ∷ (set P 11 0x04, some 5)  -- job size 1
-    ∷ (set (set P 14 0x04) 15 0x00, some 8)  -- the step from 1 to 0
+    ∷ (set (set P 14 0x02) 15 0x00, some 8)  -- the step from 1 to 0
     ∷ (set P 5 0x02, none)  -- of kind none
     ∷ (take 21 P, none)  -- its last byte, which is the pattern's, dropped
     ∷ (set P 21 0x01, none)  -- its last byte 01
@@ -167,11 +167,11 @@ cuts =
 abbrev fillings : List Case
 fillings =
     (set P 17 0xff, none)  -- the byte behind P's filling bits is the pattern's
-    ∷ (set T 28 0x40, some 9)  -- the bit before T's filling bits is its accept's: channel 1
-    -- sections of 120 bits, with nothing to fill
-    ∷ (packed (head 1 2 0 0 0 2 1 ++ job 2 0 1 ++ channel 1 ++ channel 1) ++ (0xff ∷ []), none)
-    ∷ map (λ v. (set P 16 v, some 4)) (0x30 ∷ 0x28 ∷ 0x24 ∷ 0x22 ∷ 0x21 ∷ [])  -- each of P's five filling bits
-    ++ map (λ v. (set T 28 v, some 4)) (0x20 ∷ 0x10 ∷ 0x08 ∷ 0x04 ∷ 0x02 ∷ 0x01 ∷ [])  -- each of T's six
+    ∷ (set T 28 0x10, some 9)  -- the bit before T's filling bits is its accept's: channel 1
+    -- sections of 136 bits, with nothing to fill
+    ∷ (packed (head 1 2 0 0 0 5 1 ++ job 2 0 1 ++ each 5 (λ i. channel 1)) ++ (0xff ∷ []), none)
+    ∷ map (λ v. (set P 16 v, some 4)) (0x18 ∷ 0x14 ∷ 0x12 ∷ 0x11 ∷ [])  -- each of P's four filling bits
+    ++ map (λ v. (set T 28 v, some 4)) (0x08 ∷ 0x04 ∷ 0x02 ∷ 0x01 ∷ [])  -- each of T's four
 
 -- refusal 5
 abbrev wrongSizes : List Case
@@ -222,6 +222,37 @@ strays =
     ∷ (two job₀ (job 3 6 5) step₀ step₁ call accept, some 6)  -- an entry that is no node, of the second job
     ∷ (two job₀ (job 3 3 255) step₀ step₁ call accept, some 6)  -- an exit that is no node, of the second job
     ∷ (two (job 3 2 2) (job 3 5 5) step₀ step₁ call accept, none)  -- entry and exit the last node of each job
+    ∷ []
+
+-- plans with standing jobs, by document 02's order 5
+abbrev services : List Case
+services =
+    (two (service 3 0 0) job₁ step₀ step₁ call accept, none)  -- the first stands, and a step leaves its entry; the second, and an accept does
+    ∷ (two job₀ (service 3 3 3) step₀ step₁ call accept, none)
+    ∷ (two (service 3 2 2) job₁ step₀ step₁ (link 2 1 0) accept, none)  -- a call leaves the entry, or the step stays there
+    ∷ (two (service 3 2 2) job₁ (step 2 2 0) step₁ call accept, none)
+    ∷ (two (service 3 0 0) job₁ step₀ (step 5 3 3) call accept, some 8)  -- a step leaves the exit of the other job
+    ∷ (two job₀ (service 3 3 3) (step 2 0 1) step₁ call accept, some 8)
+    ∷ (two (service 3 0 2) job₁ step₀ step₁ call accept, some 6)  -- an exit field that differs, in each job
+    ∷ (two (service 3 1 0) job₁ step₀ step₁ call accept, some 6)
+    ∷ (two job₀ (service 3 3 5) step₀ step₁ call accept, some 6)
+    ∷ (two (service 3 3 3) job₁ step₀ step₁ call accept, some 6)  -- entry and exit field alike, and no node of the job
+    ∷ (two (service 3 6 6) job₁ step₀ step₁ call accept, some 6)
+    ∷ (one (service 2 0 0) (step 0 1 1), some 21)  -- one job, which stands
+    ∷ (set P 13 0x02, some 21)  -- the same from P's bytes: its exit is 0, and its last bit 1
+    ∷ (set P 13 0x06, some 6)  -- its last bit alone
+    ∷ (two (service 3 0 0) (service 3 3 3) step₀ step₁ call accept, some 21)
+    ∷ (packed (head 16 16 0 0 0 0 1 ++ each 16 (λ i. service 1 i i)), some 21)  -- 16 jobs, which all stand, and all but the last, all but the first
+    ∷ (packed (head 16 16 0 0 0 0 1 ++ each 15 (λ i. service 1 i i) ++ job 1 15 15), none)
+    ∷ (packed (head 16 16 0 0 0 0 1 ++ job 1 0 0 ++ each 15 (λ i. service 1 (i + 1) (i + 1))), none)
+    ∷ (two (service 3 0 0) (service 3 3 3) (step 0 6 1) step₁ call accept, some 21)  -- 21 and 7, 8 of nobody, 9
+    ∷ (two (service 3 2 2) (service 3 5 5) (step 2 0 1) (step 5 3 3) call (link 3 4 1), some 21)
+    ∷ (two (service 3 0 1) (service 3 3 3) step₀ step₁ call accept, some 6)  -- 6 and 21
+    ∷ (two (service 3 0 0) (service 4 3 3) step₀ step₁ call accept, some 5)  -- 5 and 21
+    ∷ (two (service 3 0 0) job₁ (step 0 3 1) step₁ call accept, some 7)  -- of a standing job 7 and 9 are asked
+    ∷ (two (service 3 0 0) job₁ step₀ step₁ (link 1 2 1) accept, some 9)
+    ∷ (take 17 (packed (head 2 2 0 0 0 0 1 ++ job 1 0 0 ++ job 1 1 1)), some 3)  -- two records of 26 bits need 18 bytes
+    ∷ (take 18 (packed (head 2 2 0 0 0 0 1 ++ job 1 0 0 ++ job 1 1 1)), none)
     ∷ []
 
 -- refusal 7
@@ -276,12 +307,12 @@ abbrev overlaps : List Case
 overlaps =
     (replicate 10 0xff, some 1)  -- 1 to 3
     ∷ (set (take 16 P) 0 0x88, some 2)  -- 2 and 3
-    ∷ (set (two (job 3 0 6) (job 4 3 5) (step 0 6 1) (step 5 4 3) call (link 3 4 1)) 28 0x41, some 4)  -- 4 to 9
+    ∷ (set (two (job 3 0 6) (job 4 3 5) (step 0 6 1) (step 5 4 3) call (link 3 4 1)) 28 0x11, some 4)  -- 4 to 9
     ∷ (two (job 3 0 6) (job 4 3 5) (step 0 6 1) (step 5 4 3) call (link 3 4 1), some 5)  -- 5 to 9
     ∷ (two (job 3 0 6) job₁ (step 0 6 1) (step 5 4 3) call (link 3 4 1), some 6)  -- 6 to 9
     ∷ (two job₀ job₁ (step 0 6 1) (step 5 4 3) call (link 3 4 1), some 7)  -- 7 to 9
     ∷ (two job₀ job₁ step₀ (step 5 4 3) call (link 3 4 1), some 8)  -- 8 and 9
-    ∷ (set (set P 16 0x21) 11 0x0c, some 4)  -- 4 and 5
+    ∷ (set (set P 16 0x11) 11 0x0c, some 4)  -- 4 and 5
     ∷ (one (job 3 0 3) (step 0 1 1), some 5)  -- 5 and 6
     ∷ (one (job 2 0 2) (step 0 2 1), some 6)  -- 6 and 7
     ∷ (two job₀ job₁ (step 2 3 1) step₁ call accept, some 7)  -- 7 and 8 of one step
@@ -302,7 +333,7 @@ noise =
 -- the table
 abbrev pub cases : List Case
 cases =
-    known ++ counts ++ wholes ++ cuts ++ fillings ++ wrongSizes ++ noJobs ++ strays ++ splitEnds ++ exitsLeft ++ noChannels
+    known ++ counts ++ wholes ++ cuts ++ fillings ++ wrongSizes ++ noJobs ++ strays ++ services ++ splitEnds ++ exitsLeft ++ noChannels
     ++ overlaps ++ noise
 
 answers : map (λ (c : Case). first order (c .0)) cases ≡ map (λ (c : Case). c .1) cases

@@ -9,12 +9,12 @@ use Rattle.sections.specs.declared.Decoded.{Decoded}
 use Rattle.sections.specs.declared.Jobs.{Jobs}
 use Rattle.sections.specs.Plan.{Arc, Plan}
 use Rattle.rows.specs.Rows.{padded, place}
-use Rattle.sections.specs.Tables.{exits, jobsIn}
-use Rattle.sections.proofs.Kept.{jobs-kept}
+use Rattle.sections.specs.Tables.{exits, standings, endBy, jobsIn}
+use Rattle.sections.proofs.Kept.{jobs-kept, ends-kept}
 use Rattle.rows.proofs.Rows.{padded-places}
 use Rattle.plan.specs.Checks.{any, anyNumbered}
-use Rattle.plan.specs.Nodes.{owners, jobOf, exitOf}
-use Rattle.plan.specs.Refusals.{stray, strayEnds, apart, splitEnds, leaving, exitLeft, unknown, noChannel, arcs, links}
+use Rattle.plan.specs.Nodes.{owners, jobOf, exitOf, mustEnd}
+use Rattle.plan.specs.Refusals.{stray, strayEnds, allStand, noneEnds, apart, splitEnds, leaving, exitLeft, unknown, noChannel, arcs, links}
 use Rattle.plan.specs.Bounds.{OwnersBelow}
 use Rattle.plan.proofs.Tests.{any-both}
 use Rattle.plan.proofs.Nodes.{owners-below}
@@ -52,6 +52,9 @@ module _ (p : Plan) (owner : List ℕ) (o : owner ≡ padded 256 (owners (p .job
     exit-on : place (g .exit) ≡ exitOf p
     exit-on = ap (λ (x : Bounds). place (x .exit)) e ∙ padded-places 16 (exits (p .jobs))
 
+    end-on : endBy (g .standing) ≡ mustEnd p
+    end-on = ap (λ (x : Bounds). endBy (x .standing)) e ∙ ends-kept (standings (p .jobs))
+
     apart-on : (s .apart || (c .apart || a .apart)) ≡ splitEnds p
     apart-on =
         any-arcs p (apart (g .nodes) (place owner)) (s .apart) (c .apart) (a .apart) (λ i. es i .apart) (λ i. ec i .apart) (λ i. ea i .apart)
@@ -59,8 +62,8 @@ module _ (p : Plan) (owner : List ℕ) (o : owner ≡ padded 256 (owners (p .job
 
     leaving-on : (s .leaving || (c .leaving || a .leaving)) ≡ exitLeft p
     leaving-on =
-        any-arcs p (leaving (place owner) (place (g .exit))) (s .leaving) (c .leaving) (a .leaving) (λ i. es i .leaving) (λ i. ec i .leaving) (λ i. ea i .leaving)
-        ∙ (λ i. any (leaving (job-on i) (exit-on i)) (arcs p))
+        any-arcs p (leaving (place owner) (place (g .exit)) (endBy (g .standing))) (s .leaving) (c .leaving) (a .leaving) (λ i. es i .leaving) (λ i. ec i .leaving) (λ i. ea i .leaving)
+        ∙ (λ i. any (leaving (job-on i) (exit-on i) (end-on i)) (arcs p))
 
     unknown-on : (c .unknown || a .unknown) ≡ noChannel p
     unknown-on =
@@ -71,6 +74,9 @@ module _ (p : Plan) (owner : List ℕ) (o : owner ≡ padded 256 (owners (p .job
 module _ {p : Plan} {nodes : ℕ} {owner : List ℕ} {jobs : Jobs} {s c a : Faults} (t : Tested p nodes owner jobs s c a) where
   pub stray-tested : anyNumbered (stray nodes (place owner)) (jobsIn jobs) ≡ strayEnds p
   stray-tested = (λ i. anyNumbered (stray (t .same-nodes i) (place owner)) (t .jobs-kept i)) ∙ stray-on p owner (t .owners-kept)
+
+  pub standing-tested : allStand (jobsIn jobs) ≡ noneEnds p
+  standing-tested = ap allStand (t .jobs-kept)
 
   pub apart-tested : (s .apart || (c .apart || a .apart)) ≡ splitEnds p
   apart-tested = apart-on p owner (t .owners-kept) (boundsOf p) refl s c a (t .steps) (t .calls) (t .accepts)
@@ -84,10 +90,10 @@ module _ {p : Plan} {nodes : ℕ} {owner : List ℕ} {jobs : Jobs} {s c a : Faul
 -- from the tables of the plan
 module _ {p : Plan} {d : Decoded} {owner words : List ℕ} (l : Lent p d owner words) where
   abbrev pub bounds : Bounds
-  bounds = record { nodes = d .nodes; exit = d .jobs .exit; channels = d .channels .count }
+  bounds = record { nodes = d .nodes; exit = d .jobs .exit; standing = d .jobs .standing; channels = d .channels .count }
 
   bounds-kept : bounds ≡ boundsOf p
-  bounds-kept = λ i. record { nodes = l .tables i .nodes; exit = l .tables i .jobs .exit; channels = l .tables i .channels .count }
+  bounds-kept = λ i. record { nodes = l .tables i .nodes; exit = l .tables i .jobs .exit; standing = l .tables i .jobs .standing; channels = l .tables i .channels .count }
 
   -- no node has a job past the sixteenth
   pub owners-few : OwnersBelow 16 owner

@@ -1,4 +1,4 @@
--- What the tests of entries, exits and arcs go by: arrays that stand for the job of a node and the exit of a job. Promises to
+-- What the tests of entries, exits and arcs go by: arrays that stand for the job of a node, the exit of a job and its last bit. Promises to
 -- other crates speak of what is lent alone.
 use mathlib.Core.Path.{_≡_}
 use mathlib.Core.List.{List}
@@ -8,7 +8,7 @@ use Rattle.sections.specs.declared.Decoded.{Decoded}
 use Rattle.sections.specs.declared.Jobs.{Jobs}
 use Rattle.sections.specs.Plan.{Arc, Plan}
 use Rattle.rows.specs.Rows.{padded, place}
-use Rattle.sections.specs.Tables.{exits, jobsIn, decodedOf}
+use Rattle.sections.specs.Tables.{exits, standings, endBy, jobsIn, decodedOf}
 use Rattle.plan.specs.Checks.{any}
 use Rattle.plan.specs.Nodes.{owners}
 use Rattle.plan.specs.Refusals.{apart, leaving, unknown}
@@ -20,6 +20,7 @@ abbrev pub boundsOf : Plan → Bounds
 boundsOf p = record {
   nodes = p .nodes;
   exit = padded 16 (exits (p .jobs));
+  standing = padded 16 (standings (p .jobs));
   channels = length (p .channels);
 }
 
@@ -27,7 +28,7 @@ boundsOf p = record {
 abbrev pub faultsOf : Bounds → List ℕ → List Arc → Faults
 faultsOf g owner l = record {
   apart = any (apart (g .nodes) (place owner)) l;
-  leaving = any (leaving (place owner) (place (g .exit))) l;
+  leaving = any (leaving (place owner) (place (g .exit)) (endBy (g .standing))) l;
   unknown = any (unknown (g .channels)) l;
 }
 

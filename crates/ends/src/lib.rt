@@ -1,4 +1,4 @@
-// Refusals 6 to 9, which ask for the job of a node: entries and exits, and the ends of arcs.
+// Refusals 6, 21, and 7 to 9, behind the sizes of the jobs: entries and exits, whether a job ends, and the ends of arcs.
 use plan::Outcome;
 use sections::Decoded;
 use sections::Jobs;
@@ -9,7 +9,7 @@ ghost use Rattle.sections.specs.Plan.{Plan};
 ghost use Rattle.sections.specs.Tables.{jobsIn};
 ghost use Rattle.plan.specs.Checks.{first, anyNumbered};
 ghost use Rattle.plan.specs.Bounds.{OwnersBelow};
-ghost use Rattle.plan.specs.Refusals.{stray, ends};
+ghost use Rattle.plan.specs.Refusals.{stray, allStand, ends};
 ghost use Rattle.plan.specs.Outcomes.{outcomeOf};
 ghost use Rattle.words.specs.Words.{arcsOn};
 ghost use Rattle.ends.specs.Faults.{faultsOf, Tested, Lent};
@@ -18,6 +18,7 @@ ghost use Rattle.ends.specs.Faults.{faultsOf, Tested, Lent};
 struct Bounds {
     nodes: usize,
     exit: [u8; 16],
+    standing: [u8; 16],
     channels: usize,
 }
 
@@ -34,11 +35,28 @@ fn any_stray(nodes: usize, owner: &[u8; 256], jobs: Jobs) -> bool
         let exit = sections::byte(jobs.exit[i]);
         let entry_job = sections::byte(owner[entry]);
         let exit_job = sections::byte(owner[exit]);
-        found = found
-            | !(((entry < nodes) & (entry_job == i)) & ((exit < nodes) & (exit_job == i)));
+        let standing = sections::is_standing(jobs.standing[i]);
+        let strange = !(((entry < nodes) & (entry_job == i)) & ((exit < nodes) & (exit_job == i)));
+        found = found | (strange | (standing & (exit != entry)));
         i += 1;
     }
     found
+}
+
+// Refusal 21.
+fn all_stand(jobs: Jobs) -> bool
+    requires { ⌜ jobs .count ≤ 16 ⌝ }
+    ensures { λ r. ⌜ r ≡ allStand (jobsIn jobs) ⌝ }
+{
+    let count = jobs.count;
+    let mut ending = false;
+    let mut i: usize = 0;
+    while i < count {
+        let standing = sections::is_standing(jobs.standing[i]);
+        ending = ending | !standing;
+        i += 1;
+    }
+    (0 < count) & !ending
 }
 
 // Whether an arc of a section has the fault of refusal 7, of 8, of 9.
@@ -73,8 +91,9 @@ fn find_faults<'a>(
         let job = sections::byte(owner[from]);
         let other = sections::byte(owner[to]);
         let exit = sections::byte(g.exit[job]);
+        let standing = sections::is_standing(g.standing[job]);
         apart = apart | !((from < nodes) & ((to < nodes) & (job == other)));
-        leaving = leaving | (from == exit);
+        leaving = leaving | (!standing & (from == exit));
         unknown = unknown | (channels <= label);
         i += 1;
     }
@@ -85,35 +104,45 @@ fn find_faults<'a>(
     }
 }
 
-// The first of refusals 6 to 9, by the faults of the steps, of the calls and of the accepts.
+// The first of refusals 6, 21, and 7 to 9, by the jobs and by the faults of the steps, of the calls and of the accepts.
 fn first_of(nodes: usize, owner: &[u8; 256], jobs: Jobs, s: Faults, c: Faults, a: Faults) -> Outcome
     requires { ⌜ jobs .count ≤ 16 ⌝ }
     ensures { λ r. ⌜ ((p : Plan) → Tested p nodes (now (owner .entry)) jobs s c a → r ≡ outcomeOf (first ends p)) ⌝ }
 {
-    if any_stray(nodes, owner, jobs) {
+    let stray = any_stray(nodes, owner, jobs);
+    let standing = all_stand(jobs);
+    let apart = s.apart | (c.apart | a.apart);
+    let leaving = s.leaving | (c.leaving | a.leaving);
+    let unknown = c.unknown | a.unknown;
+    if stray {
         return Outcome::Refused(6);
     }
-    if s.apart | (c.apart | a.apart) {
+    if standing {
+        return Outcome::Refused(21);
+    }
+    if apart {
         return Outcome::Refused(7);
     }
-    if s.leaving | (c.leaving | a.leaving) {
+    if leaving {
         return Outcome::Refused(8);
     }
-    if c.unknown | a.unknown {
+    if unknown {
         return Outcome::Refused(9);
     }
     Outcome::Accepted
 }
 
-// Refusals 6 to 9, from the tables of a plan, the job of each node and the words of its arcs.
+// Refusals 6, 21, and 7 to 9, from the tables of a plan, the job of each node and the words of its arcs.
 pub fn bounded<'a>(d: Decoded, owner: &'a [u8; 256], words: &'a [u32; 512]) -> Outcome
     requires { ⌜ ((p : Plan) × Lent p d (now owner) (now words)) ⌝ }
     ensures { λ r. ⌜ ((p : Plan) → Lent p d (now (owner .entry)) (now (words .entry)) → r ≡ outcomeOf (first ends p)) ⌝ }
 {
     let exit = d.jobs.exit;
+    let standing = d.jobs.standing;
     let g = Bounds {
         nodes: d.nodes,
         exit: exit,
+        standing: standing,
         channels: d.channels.count,
     };
     let s = find_faults(g, owner, words, 0, d.steps);

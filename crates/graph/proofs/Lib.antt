@@ -8,3 +8,4 @@ pub mod Edges
 pub mod Once
 pub mod Plans
 pub mod NoJobs
+pub mod Standing

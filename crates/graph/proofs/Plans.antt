@@ -4,8 +4,9 @@ use Prim.Native.Nat.{ℕ, _+_, _^_}
 use Rattle.sections.specs.declared.Kind.the-variants.{Every}
 use Rattle.sections.specs.Plan.{Job, Arc, Plan}
 
+-- a job that has to end
 abbrev pub job : (size entry exit : ℕ) → Job
-job size entry exit = record { size = size; entry = entry; exit = exit }
+job size entry exit = record { size = size; entry = entry; exit = exit; standing = 0 }
 
 abbrev pub arc : (from to label : ℕ) → Arc
 arc from to label = record { from = from; to = to; label = label }

@@ -78,9 +78,12 @@ cases =
     ∷ (with-pattern b₁ 1 (one (2 ∷ [])), some 12)
     ∷ (with-pattern b₁ 1 repeat, some 13)
     ∷ (with-pattern b₁ 2 (one (1 ∷ [])), some 14)
-    ∷ (take 21 (set P 16 0x21), some 4)  -- 4 and 10
+    ∷ (take 21 (set P 16 0x11), some 4)  -- 4 and 10
     ∷ (plans.one (job 2 0 1) (step 1 0 1) ++ take 4 (packed (one (1 ∷ []))), some 8)  -- 8 and 10
     ∷ (distance 14 5 ++ (0x00 ∷ []), some 15)  -- 15 and 16
+    ∷ (set P 13 0x02, some 21)  -- order 5: one job, which stands; 21 and 10, 21 and 16
+    ∷ (take 21 (set P 13 0x02), some 21)
+    ∷ (set (distance 14 5) 13 0x02, some 21)
     ∷ []
 
 answers : map (λ (c : Case). first acceptable (c .0)) cases ≡ map (λ (c : Case). c .1) cases
@@ -121,6 +124,6 @@ all-counts m = agree (λ (c : Case). count (c .0)) (λ (c : Case). c .1) counts 
 
 -- ---- parts
 
-pub parts : (patternPart P ≡ 0x30 ∷ 0x00 ∷ 0x00 ∷ 0x00 ∷ 0x00 ∷ []) × (patternPart (take 21 P) ≡ []) × (patternPart (distance 14 5) ≡ [])
+pub parts : (patternPart P ≡ 0x30 ∷ 0x00 ∷ 0x00 ∷ 0x00 ∷ 0x00 ∷ []) × (patternPart (take 21 P) ≡ []) × (patternPart (distance 14 5) ≡ []) × (patternPart (set P 13 0x02) ≡ [])
 unfolding bitsOf valueFrom fieldAt eventsFrom eventsAt row planOf first anyFrom ownersFrom total countsOutside pushAll itemAt read itemsRefusal statesOf states build collect index positions.step watchedBelow digit gatherBelow patternPart
-parts = (refl, refl, refl)
+parts = (refl, refl, refl, refl)

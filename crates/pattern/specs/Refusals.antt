@@ -40,7 +40,7 @@ overLimit (some es) = false
 abbrev pub tooManyStates : List ℕ → Bool
 tooManyStates b = overLimit (statesOf (expressionOf b) (planOf b .alphabet))
 
--- the checks of a plan on its own, 1 to 16
+-- the checks of a plan on its own, 1 to 16, and 21
 abbrev pub acceptable : List (Check (List ℕ))
 acceptable = readable ++ (refuse 16 tooManyStates ∷ [])
 
@@ -51,7 +51,7 @@ partUnder none b = rest b
 partUnder (some n) b = []
 
 -- "The pattern's bytes of an accepted plan come back as that very part of the plan. The part is empty if and only if one
--- of 1 to 16 applies."
+-- of 1 to 16 applies."; order 5: 21 is one of the checks before the pattern, and "the pattern part is empty then too"
 unfoldable pub patternPart : List ℕ → List ℕ
 patternPart b = partUnder (first acceptable b) b
 

@@ -10,7 +10,7 @@ use Rattle.fields.specs.Bits.{valueFrom}
 abbrev pub P : List ℕ
 P =
     0x08 ∷ 0x08 ∷ 0x02 ∷ 0x00 ∷ 0x00 ∷ 0x00 ∷ 0x06 ∷ 0x00 ∷ 0x00 ∷ 0x00 ∷ 0x00
-    ∷ 0x08 ∷ 0x00 ∷ 0x04 ∷ 0x00 ∷ 0x04 ∷ 0x20 ∷ 0x30 ∷ 0x00 ∷ 0x00 ∷ 0x00 ∷ 0x00 ∷ []
+    ∷ 0x08 ∷ 0x00 ∷ 0x04 ∷ 0x00 ∷ 0x02 ∷ 0x10 ∷ 0x30 ∷ 0x00 ∷ 0x00 ∷ 0x00 ∷ 0x00 ∷ []
 
 -- ---- plans from their fields
 
@@ -41,9 +41,13 @@ abbrev pub head : (jobs nodes steps calls accepts channels items : ℕ) → Fiel
 head jobs nodes steps calls accepts channels items =
     (jobs, 5) ∷ (nodes, 9) ∷ (steps, 9) ∷ (calls, 8) ∷ (accepts, 8) ∷ (channels, 7) ∷ (0, 1) ∷ (items, 7) ∷ (2 ^ 30, 31) ∷ []
 
--- a job;
+-- a job that has to end;
 abbrev pub job : (size entry exit : ℕ) → Fields
-job size entry exit = (size, 9) ∷ (entry, 8) ∷ (exit, 8) ∷ []
+job size entry exit = (size, 9) ∷ (entry, 8) ∷ (exit, 8) ∷ (0, 1) ∷ []
+
+-- a job that stands;
+abbrev pub service : (size entry exit : ℕ) → Fields
+service size entry exit = (size, 9) ∷ (entry, 8) ∷ (exit, 8) ∷ (1, 1) ∷ []
 
 -- a local step;
 abbrev pub step : (from to event : ℕ) → Fields

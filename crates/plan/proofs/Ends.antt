@@ -12,11 +12,11 @@ use Rattle.sections.specs.Tables.{sizes}
 use Rattle.plan.specs.declared.Outcome.the-variants.{Accepted, Refused}
 use Rattle.plan.specs.Checks.{Check, orElse, first, any}
 use Rattle.plan.specs.Nodes.{total}
-use Rattle.plan.specs.Refusals.{sizesWrong, wrongSizes, strayEnds, splitEnds, exitLeft, noChannel, framing, ends, shape, order}
+use Rattle.plan.specs.Refusals.{sizesWrong, wrongSizes, strayEnds, noneEnds, splitEnds, exitLeft, noChannel, framing, ends, shape, order}
 use Rattle.plan.specs.Outcomes.{outcomeOf}
 use Rattle.plan.proofs.Tests.{both-none, or-none, first-append, first-said}
 
--- ---- refusals 5 to 9
+-- ---- refusals 5 to 9 and 21
 
 module _ (p : Plan) where
   pub shape-5 : wrongSizes p ≡ true → first shape p ≡ some 5
@@ -32,23 +32,28 @@ module _ (p : Plan) where
   ends-6 e = rw e
 
   module _ (kept : strayEnds p ≡ false) where
-    pub ends-7 : splitEnds p ≡ true → first ends p ≡ some 7
+    pub ends-21 : noneEnds p ≡ true → first ends p ≡ some 21
     unfolding first
-    ends-7 e = rw (kept, e)
+    ends-21 e = rw (kept, e)
 
-    module _ (joined : splitEnds p ≡ false) where
-      pub ends-8 : exitLeft p ≡ true → first ends p ≡ some 8
+    module _ (ending : noneEnds p ≡ false) where
+      pub ends-7 : splitEnds p ≡ true → first ends p ≡ some 7
       unfolding first
-      ends-8 e = rw (kept, joined, e)
+      ends-7 e = rw (kept, ending, e)
 
-      module _ (staying : exitLeft p ≡ false) where
-        pub ends-9 : noChannel p ≡ true → first ends p ≡ some 9
+      module _ (joined : splitEnds p ≡ false) where
+        pub ends-8 : exitLeft p ≡ true → first ends p ≡ some 8
         unfolding first
-        ends-9 e = rw (kept, joined, staying, e)
+        ends-8 e = rw (kept, ending, joined, e)
 
-        pub ends-none : noChannel p ≡ false → first ends p ≡ none
-        unfolding first
-        ends-none e = rw (kept, joined, staying, e)
+        module _ (staying : exitLeft p ≡ false) where
+          pub ends-9 : noChannel p ≡ true → first ends p ≡ some 9
+          unfolding first
+          ends-9 e = rw (kept, ending, joined, staying, e)
+
+          pub ends-none : noChannel p ≡ false → first ends p ≡ none
+          unfolding first
+          ends-none e = rw (kept, ending, joined, staying, e)
 
 pub sizes-right : (nodes : ℕ) (jobs : List Job) → sizesWrong nodes jobs ≡ false → total (sizes jobs) ≡ nodes
 sizes-right nodes jobs e = eqb-true _ _ (not-false _ (or-none (any (λ (b : Job). eqb (b .size) 0) jobs) _ e .1))

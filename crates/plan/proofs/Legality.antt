@@ -1,25 +1,26 @@
 -- An accepted plan is legal. Assumes nothing.
-use mathlib.Core.Path.{_≡_, refl, sym}
-use mathlib.Core.Bool.{Bool, true, false, _&&_}
+use mathlib.Core.Path.{_≡_, refl, sym, ap, _∙_}
+use mathlib.Core.Bool.{Bool, true, false, _&&_, _||_, not, false≢true}
 use mathlib.Core.Logic.{⊎-elim}
 use mathlib.Core.Option.{none}
 use mathlib.Core.List.{List, [], _∷_, List·Memᴰ, List·Memᴰ·not-nil, List·Memᴰ·cases-cons}
 use Prim.Native.Nat.{ℕ, zero, suc, _+_, _*_, _<_}
 use native.Mathlib.Nat.{not-suc-le-zero, le-of-suc-le-suc}
 use native.Mathlib.Omega.{arith}
-use borrow.Author.Tests.{ltb-true, leb-false, eqb-true, eqb-false, not-false}
+use borrow.Author.Tests.{ltb-true, lt-ltb, leb-false, eqb-true, eqb-false, not-false}
 use lib.Dec.{ltb}
 use lib.ListN.{length, getD, List·getD-map}
 use Rattle.fields.specs.Bits.{fieldAt}
 use Rattle.fields.proofs.Laws.{field-lt}
-use Rattle.sections.specs.Plan.{Job, Arc, Plan}
+use Rattle.sections.specs.Plan.{Job, Arc, Plan, stands}
 use Rattle.sections.specs.Layout.{headOf, stepsAt, channelsAt, planOf}
 use Rattle.rows.proofs.Rows.{row-length}
 use Rattle.rows.proofs.Members.{in-row}
+use Rattle.sections.specs.Tables.{standings, endBy}
 use Rattle.sections.proofs.Kept.{noJob}
 use Rattle.plan.specs.Checks.{first, anyFrom}
-use Rattle.plan.specs.Nodes.{jobOf, entryOf, exitOf, isNode}
-use Rattle.plan.specs.Refusals.{wrongSizes, stray, strayEnds, apart, splitEnds, leaving, exitLeft, unknown, noChannel, arcs, links, ends, shape, order}
+use Rattle.plan.specs.Nodes.{jobOf, entryOf, exitOf, mustEnd, isNode}
+use Rattle.plan.specs.Refusals.{wrongSizes, differs, stray, strayEnds, noneEnds, apart, splitEnds, leaving, exitLeft, unknown, noChannel, arcs, links, ends, shape, order}
 use Rattle.plan.specs.Legal.{NodeOf, Inside, Legal}
 use Rattle.plan.proofs.Tests.{or-none, first-none}
 use Rattle.plan.proofs.Ranges.{Framed, framed}
@@ -51,11 +52,33 @@ both false b e = (cc, cc)
 node-of : (p : Plan) (j n : ℕ) → isNode (p .nodes) (jobOf p) j n ≡ true → NodeOf p j n
 node-of p j n e = let b = both (ltb n (p .nodes)) _ e in record { node = ltb-true _ _ (b .0); owner = eqb-true _ _ (b .1) }
 
-inside-of : (p : Plan) (a : Arc) → apart (p .nodes) (jobOf p) a ≡ false → leaving (jobOf p) (exitOf p) a ≡ false → Inside p a
+-- where one of two tests holds, and not both, the other does not
+other : (a b : Bool) → (a && b) ≡ false → a ≡ true → b ≡ false
+other true b e h = e
+other false b e h = cc
+
+inside-of : (p : Plan) (a : Arc) → apart (p .nodes) (jobOf p) a ≡ false → leaving (jobOf p) (exitOf p) (mustEnd p) a ≡ false → Inside p a
 inside-of p a e f =
     let b = both (ltb (a .from) (p .nodes)) _ (not-false _ e) in
     let c = both (ltb (a .to) (p .nodes)) _ (b .1) in
-    record { from = ltb-true _ _ (b .0); to = record { node = ltb-true _ _ (c .0); owner = sym (eqb-true _ _ (c .1)) }; stays = eqb-false _ _ f }
+    record {
+      from = ltb-true _ _ (b .0);
+      to = record { node = ltb-true _ _ (c .0); owner = sym (eqb-true _ _ (c .1)) };
+      stays = λ ends. eqb-false _ _ (other (mustEnd p (jobOf p (a .from))) _ f ends);
+    }
+
+-- where not all of some jobs stand, one of them has to end
+abbrev OneEnds : List Job → Type 0
+OneEnds l = (j : ℕ) × (j < length l) × (endBy (standings l) j ≡ true)
+
+some-end : (k : ℕ) (l : List Job) → anyFrom (λ i (b : Job). not (stands (b .standing))) k l ≡ true → OneEnds l
+unfolding anyFrom
+some-end k [] e = absurd (false≢true e)
+some-end k (b ∷ l) e = go (not (stands (b .standing))) refl e (λ h. some-end (suc k) l h)
+  where
+    go : (t : Bool) {u : Bool} → not (stands (b .standing)) ≡ t → (t || u) ≡ true → (u ≡ true → OneEnds l) → OneEnds (b ∷ l)
+    go true h e later = (0, omega arith, h)
+    go false h e later = let r = later e in (suc (r .0), omega (arith, r .1), r .2)
 
 -- ---- fields of 5 bits
 
@@ -68,10 +91,11 @@ module _ (b : List ℕ) (f : Framed b) where
 
 -- ---- the plan
 
--- where none of refusals 5 to 9 applies
+-- where none of refusals 5 to 9 and 21 applies
 record Shaped (p : Plan) : Type 0 where
   sizes : wrongSizes p ≡ false
   ends : strayEnds p ≡ false
+  ending : noneEnds p ≡ false
   joined : splitEnds p ≡ false
   staying : exitLeft p ≡ false
   known : noChannel p ≡ false
@@ -80,22 +104,46 @@ shaped : (p : Plan) → first shape p ≡ none → Shaped p
 shaped p e =
     let five = first-none 5 wrongSizes ends p e in
     let six = first-none 6 strayEnds _ p (five .1) in
-    let seven = first-none 7 splitEnds _ p (six .1) in
+    let late = first-none 21 noneEnds _ p (six .1) in
+    let seven = first-none 7 splitEnds _ p (late .1) in
     let eight = first-none 8 exitLeft _ p (seven .1) in
     let nine = first-none 9 noChannel _ p (eight .1) in
-    record { sizes = five .0; ends = six .0; joined = seven .0; staying = eight .0; known = nine .0 }
+    record { sizes = five .0; ends = six .0; ending = late .0; joined = seven .0; staying = eight .0; known = nine .0 }
 
--- the entry and the exit of a job are nodes of it
-ends-of : (p : Plan) → Shaped p → (j : ℕ) → j < length (p .jobs) → NodeOf p j (entryOf p j) × NodeOf p j (exitOf p j)
-ends-of p s j h =
-    let job = getD (p .jobs) j noJob in
-    let t = none-of (stray (p .nodes) (jobOf p)) 0 (p .jobs) (s .ends) noJob j h in
-    let z : 0 + j ≡ j = omega arith in
-    let u : stray (p .nodes) (jobOf p) j job ≡ false = rw z at t in
-    let n = both (isNode (p .nodes) (jobOf p) j (job .entry)) _ (not-false _ u) in (
-      rw (List·getD-map (λ (b : Job). b .entry) (p .jobs) j noJob) (node-of p j (job .entry) (n .0)),
-      rw (List·getD-map (λ (b : Job). b .exit) (p .jobs) j noJob) (node-of p j (job .exit) (n .1)),
-    )
+module _ (p : Plan) (s : Shaped p) where
+  module _ (j : ℕ) (h : j < length (p .jobs)) where
+    abbrev the-job : Job
+    the-job = getD (p .jobs) j noJob
+
+    entry-at : entryOf p j ≡ the-job .entry
+    entry-at = List·getD-map (λ (b : Job). b .entry) (p .jobs) j noJob
+
+    exit-at : exitOf p j ≡ the-job .exit
+    exit-at = List·getD-map (λ (b : Job). b .exit) (p .jobs) j noJob
+
+    -- 6 does not apply to it
+    kept : (not (isNode (p .nodes) (jobOf p) j (the-job .entry) && isNode (p .nodes) (jobOf p) j (the-job .exit)) ≡ false) × (differs the-job ≡ false)
+    kept =
+        let t = none-of (stray (p .nodes) (jobOf p)) 0 (p .jobs) (s .ends) noJob j h in
+        let z : 0 + j ≡ j = omega arith in
+        let u : stray (p .nodes) (jobOf p) j the-job ≡ false = rw z at t in
+        or-none _ _ u
+
+    -- its entry and its exit are nodes of it
+    ends-of : NodeOf p j (entryOf p j) × NodeOf p j (exitOf p j)
+    ends-of =
+        let n = both (isNode (p .nodes) (jobOf p) j (the-job .entry)) _ (not-false _ (kept .0)) in
+        (rw entry-at (node-of p j (the-job .entry) (n .0)), rw exit-at (node-of p j (the-job .exit) (n .1)))
+
+    -- and they are one node if it stands
+    stands-of : mustEnd p j ≡ false → exitOf p j ≡ entryOf p j
+    stands-of e =
+        let bit = List·getD-map (λ (b : Job). b .standing) (p .jobs) j noJob in
+        let standing : stands (the-job .standing) ≡ true = ap stands (sym bit) ∙ not-false _ e in
+        exit-at ∙ eqb-true _ _ (not-false _ (other (stands (the-job .standing)) _ (kept .1) standing)) ∙ sym entry-at
+
+  one-ends : 0 < length (p .jobs) → OneEnds (p .jobs)
+  one-ends h = some-end 0 (p .jobs) (not-false _ (other (ltb 0 (length (p .jobs))) _ (s .ending) (lt-ltb _ _ h)))
 
 pub legal : (b : List ℕ) → first order b ≡ none → Legal (planOf b)
 unfolding planOf
@@ -116,7 +164,9 @@ legal b e =
       sizes = sizes-right (p .nodes) (p .jobs) (s .sizes);
       entry = λ j h. ends-of p s j h .0;
       exit = λ j h. ends-of p s j h .1;
-      inside = λ a m. inside-of p a (none-in (apart (p .nodes) (jobOf p)) 0 (arcs p) (s .joined) a m) (none-in (leaving (jobOf p) (exitOf p)) 0 (arcs p) (s .staying) a m);
+      standing = stands-of p s;
+      ending = one-ends p s;
+      inside = λ a m. inside-of p a (none-in (apart (p .nodes) (jobOf p)) 0 (arcs p) (s .joined) a m) (none-in (leaving (jobOf p) (exitOf p) (mustEnd p)) 0 (arcs p) (s .staying) a m);
       channel = λ a m. leb-false _ _ (none-in (unknown (length (p .channels))) 0 (links p) (s .known) a m);
       event = λ a m. let r = in-row _ (headOf b .steps) m in rw (r .2) (step-event b f (r .0) (r .1));
       channel-event = λ x m. let r = in-row _ (headOf b .channels) m in rw (r .2) (channel-event b f (r .0) (r .1));

@@ -6,7 +6,7 @@ use lib.Dec.{ltb, eqb}
 use lib.ListN.{replicate}
 use Rattle.sections.specs.Plan.{Job, Plan}
 use Rattle.rows.specs.Rows.{place}
-use Rattle.sections.specs.Tables.{entries, exits}
+use Rattle.sections.specs.Tables.{entries, exits, standings, endBy}
 
 -- the jobs of the nodes in turn, of jobs that are numbered from j on
 unfoldable pub ownersFrom : ℕ → List Job → List ℕ
@@ -26,6 +26,10 @@ entryOf p = place (entries (p .jobs))
 
 abbrev pub exitOf : Plan → ℕ → ℕ
 exitOf p = place (exits (p .jobs))
+
+-- whether a job has to end. Order 5: a standing job's exit field "ends nothing"
+abbrev pub mustEnd : Plan → ℕ → Bool
+mustEnd p = endBy (standings (p .jobs))
 
 -- n is one of the nodes, and of the job j
 abbrev pub isNode : ℕ → (ℕ → ℕ) → ℕ → ℕ → Bool

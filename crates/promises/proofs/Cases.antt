@@ -1,5 +1,5 @@
 -- Plans with known verdicts: the bytes of a plan and a lent row, the answer to them and the row in the end, by evaluation.
--- Document 01, "Plans with known verdicts" and "Errors an analyst makes", and document 02, orders 3 and 4.
+-- Document 01, "Plans with known verdicts" and "Errors an analyst makes", and document 02, orders 3, 4 and 5.
 use mathlib.Core.Path.{_≡_, refl}
 use mathlib.Core.List.{List, [], _∷_, _++_, map, List·Memᴰ}
 use mathlib.Core.Option.{Option, some}
@@ -13,7 +13,7 @@ use Rattle.sections.specs.Layout.{planOf}
 use Rattle.plan.specs.Checks.{first, anyFrom}
 use Rattle.plan.specs.Nodes.{ownersFrom, total}
 use Rattle.plan.specs.Refusals.{countsOutside}
-use Rattle.plan.proofs.Cases.{P, Fields, packed, job, step, channel, link, agree}
+use Rattle.plan.proofs.Cases.{P, Fields, packed, job, service, step, channel, link, agree}
 use Rattle.regex.specs.Items.{pushAll}
 use Rattle.regex.specs.Positions as positions
 use Rattle.numbering.specs.Numbering.{index, collect, build, states}
@@ -124,9 +124,9 @@ turnedDown =
     refused (take 10 P) (7 ∷ 8 ∷ []) 1  -- P with 10 bytes
     ∷ refused (set P 0 0x88) (7 ∷ 8 ∷ []) 2  -- with 17 jobs
     ∷ refused (take 16 P) (7 ∷ 8 ∷ []) 3  -- with 16 bytes
-    ∷ refused (set P 16 0x21) (7 ∷ 8 ∷ []) 4  -- its byte 20 made 21
+    ∷ refused (set P 16 0x11) (7 ∷ 8 ∷ []) 4  -- its byte 10 made 11
     ∷ refused (set P 11 0x04) (7 ∷ 8 ∷ []) 5  -- job size 1
-    ∷ refused (set (set P 14 0x04) 15 0x00) (7 ∷ 8 ∷ []) 8  -- the step from 1 to 0
+    ∷ refused (set (set P 14 0x02) 15 0x00) (7 ∷ 8 ∷ []) 8  -- the step from 1 to 0
     ∷ refused (take 21 P) (7 ∷ 8 ∷ []) 10  -- its last byte dropped
     ∷ refused (set P 21 0x01) (7 ∷ 8 ∷ []) 15  -- its last byte 01
     ∷ refused (distance 14 5) (7 ∷ 8 ∷ 9 ∷ []) 16  -- five times: 65 states
@@ -192,9 +192,35 @@ recess =
     ∷ refused (take 11 (quiet 0 [] [] [] [] [])) [] 10
     ∷ []
 
+-- two jobs side by side, which stand or do not: the first goes 0 to 1 by event 1, the second 2 to 3 by a quiet step
+abbrev beside : (jobs : List Fields) → List ℕ
+beside jobs = of-every 4 jobs (step 0 1 1 ∷ step 2 3 0 ∷ []) [] [] []
+
+abbrev beside-none : (jobs : List Fields) → List ℕ
+beside-none jobs = of-none 4 jobs (step 0 1 1 ∷ step 2 3 0 ∷ []) [] [] []
+
+-- plans with standing jobs
+abbrev standing : List Case
+standing =
+    -- the standing job's entry, which its exit field repeats, holds {0}, and the other's exit {0,1}: that is the final set. A run in which the
+    -- standing job has moved, and is away from its entry in the end, is wrong
+    inconclusive (beside-none (service 2 0 0 ∷ job 2 2 3 ∷ [])) (1 ∷ 2 ∷ 3 ∷ 4 ∷ 5 ∷ []) (counts 3 0 2 6 50 3) (1 ∷ 2 ∷ 3 ∷ 3 ∷ 5 ∷ [])
+    ∷ inconclusive (beside (service 2 0 0 ∷ job 2 2 3 ∷ [])) (1 ∷ 2 ∷ 3 ∷ 4 ∷ 5 ∷ []) (counts 3 0 2 6 50 3) (1 ∷ 2 ∷ 3 ∷ 3 ∷ 5 ∷ [])
+    -- the other one stands, and its steps leave its entry
+    ∷ verified (beside (job 2 0 1 ∷ service 2 2 2 ∷ [])) (1 ∷ 2 ∷ 3 ∷ 4 ∷ 5 ∷ []) (counts 3 0 2 6 50 2) (1 ∷ 2 ∷ 3 ∷ 3 ∷ 5 ∷ [])
+    ∷ inconclusive (beside-none (job 2 0 1 ∷ service 2 2 2 ∷ [])) (1 ∷ 2 ∷ 3 ∷ 4 ∷ 5 ∷ []) (counts 3 0 2 6 50 2) (1 ∷ 2 ∷ 3 ∷ 3 ∷ 5 ∷ [])
+    ∷ refused (beside (service 2 0 1 ∷ job 2 2 3 ∷ [])) (7 ∷ 8 ∷ []) 6  -- an exit field that differs
+    ∷ refused (set P 13 0x06) (7 ∷ 8 ∷ []) 6  -- P whose job stands, with the exit 1, and with its entry for exit
+    ∷ refused (set P 13 0x02) (7 ∷ 8 ∷ []) 21
+    ∷ refused (beside (service 2 0 0 ∷ service 2 2 2 ∷ [])) (7 ∷ 8 ∷ []) 21  -- both stand
+    ∷ refused (of-every 4 (service 2 0 0 ∷ service 2 2 2 ∷ []) (step 0 3 1 ∷ []) [] [] []) (7 ∷ 8 ∷ []) 21  -- 21 and 7
+    ∷ refused (beside (service 2 0 0 ∷ service 2 2 3 ∷ [])) (7 ∷ 8 ∷ []) 6  -- 6 and 21
+    ∷ refused (beside (service 2 0 0 ∷ job 2 2 2 ∷ [])) (7 ∷ 8 ∷ []) 8  -- a step that leaves the exit of the other job
+    ∷ []
+
 -- the table
 abbrev pub cases : List Case
-cases = judged ++ turnedDown ++ mistaken ++ ordered ++ recess
+cases = judged ++ turnedDown ++ mistaken ++ ordered ++ recess ++ standing
 
 -- what two rounds of the rules give, which are enough for all of them
 abbrev found : Case → Option Outcome

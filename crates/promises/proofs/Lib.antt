@@ -9,4 +9,5 @@ pub mod Numbers
 pub mod Evaluate
 pub mod Narrower
 pub mod NoJobs
+pub mod Standing
 pub mod Cases

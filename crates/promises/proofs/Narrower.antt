@@ -11,7 +11,7 @@ use Rattle.masks.specs.Mask.{In, Sub}
 use Rattle.rows.specs.Rows.{place}
 use Rattle.sections.specs.Plan.{Plan}
 use Rattle.sections.specs.Layout.{planOf}
-use Rattle.plan.specs.Nodes.{exitOf}
+use Rattle.plan.specs.Nodes.{exitOf, mustEnd}
 use Rattle.plan.specs.Legal.{Legal}
 use Rattle.regex.specs.Expression.{Expression}
 use Rattle.graph.specs.Flow.{Flow}
@@ -25,7 +25,7 @@ use Rattle.verdict.specs.Answer.{refusalOf, verdictOf}
 use Rattle.verdict.proofs.Final.{final-fewer}
 use Rattle.verdict.proofs.Verified.{verified-fewer}
 use Rattle.promises.specs.Order.{Pattern, expressionBy}
-use Rattle.promises.specs.Property.{mustEnd, table, accepting}
+use Rattle.promises.specs.Property.{table, accepting}
 use Rattle.promises.specs.Judged.{Holds, finalSet, Judged}
 use Rattle.promises.proofs.Evaluate.{legal-plan}
 
@@ -40,7 +40,7 @@ module _ (p : Plan) (r : Expression) (wide : List ℕ) where
 
     pub final-narrower : Legal p → Sub (finalSet p after) (finalSet p wide)
     final-narrower legal =
-        final-fewer (place after) (place wide) (exitOf p) mustEnd (length (p .jobs)) (λ j l. sets-narrower (exitOf p j) (legal .exit j l .node))
+        final-fewer (place after) (place wide) (exitOf p) (mustEnd p) (length (p .jobs)) (λ j l. sets-narrower (exitOf p j) (legal .exit j l .node))
 
 -- a verdict is no refusal
 pub no-refusal : (a : Answer) (x : Bool × Counts) → verdictOf a ≡ some x → refusalOf a ≡ none

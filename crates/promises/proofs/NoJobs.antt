@@ -18,7 +18,7 @@ use Rattle.sections.specs.declared.Kind.{Kind}
 use Rattle.sections.specs.declared.Kind.the-variants.{Every, None}
 use Rattle.sections.specs.Plan.{Job, Plan}
 use Rattle.sections.specs.Layout.{planOf}
-use Rattle.plan.specs.Nodes.{exitOf}
+use Rattle.plan.specs.Nodes.{exitOf, mustEnd}
 use Rattle.plan.specs.Legal.{Legal}
 use Rattle.plan.proofs.NoJobs.{no-nodes}
 use Rattle.regex.specs.Expression.{Expression, Language}
@@ -37,7 +37,7 @@ use Rattle.verdict.specs.Answer.{verdictOf}
 use Rattle.verdict.proofs.Rounded.{fill-no-nodes}
 use Rattle.verdict.proofs.Final.{AtExits, held-together, held-by-none, in-final, final-no-jobs}
 use Rattle.promises.specs.Order.{Pattern, expressionBy, shortRow}
-use Rattle.promises.specs.Property.{mustEnd, numbered, states, table, accepting, stateAfter}
+use Rattle.promises.specs.Property.{numbered, states, table, accepting, stateAfter}
 use Rattle.promises.specs.Judged.{Suits, pairs, finalSet, countsOf, Judged}
 use Rattle.promises.proofs.Sound.{states-known, moves-below, state-begins, state-stays, state-accepts}
 use Rattle.promises.proofs.Evaluate.{few-states, legal-plan}
@@ -54,7 +54,7 @@ emptyCounts states = record { states = states; meetings = 0; ordering = 0; pairs
 
 module _ (p : Plan) (r : Expression) (legal : Legal p) (none-of : p .jobs ≡ []) where
   final-zero : (sets : List ℕ) → finalSet p sets ≡ 1
-  final-zero sets = ap (λ (l : List Job). finalOf (place sets) (exitOf p) mustEnd (length l)) none-of ∙ final-no-jobs (place sets) (exitOf p) mustEnd
+  final-zero sets = ap (λ (l : List Job). finalOf (place sets) (exitOf p) (mustEnd p) (length l)) none-of ∙ final-no-jobs (place sets) (exitOf p) (mustEnd p)
 
   pairs-zero : (sets : List ℕ) → pairs p sets ≡ 0
   unfolding pairsOf
@@ -75,9 +75,9 @@ module _ (p : Plan) (r : Expression) (legal : Legal p) (none-of : p .jobs ≡ []
   module _ (fits : statesOf r (p .alphabet) ≡ some (numbered p r)) where
     -- the final set is what the complete runs have reached
     pub final-reached : (sets : List ℕ) (s : ℕ)
-        → In s (finalSet p sets) ↔ ((ms : List Move) × Run p (begin p) ms × Complete p mustEnd ms × (stateAfter p r ms ≡ s))
+        → In s (finalSet p sets) ↔ ((ms : List Move) × Run p (begin p) ms × Complete p (mustEnd p) ms × (stateAfter p r ms ≡ s))
     final-reached sets s = (
-      (λ i. ([], tt, empty-complete p legal none-of mustEnd, state-begins p r fits legal ∙ sym (in-single 0 s (subst (In s) (final-zero sets) i)))),
+      (λ i. ([], tt, empty-complete p legal none-of (mustEnd p), state-begins p r fits legal ∙ sym (in-single 0 s (subst (In s) (final-zero sets) i)))),
       (λ h.
           let start = state-stays p r fits legal none-of (h .0) (h .1) in
           subst (In s) (sym (final-zero sets)) (subst (λ (x : ℕ). In x 1) (sym start ∙ h .3) (digit-self 0))),
@@ -129,21 +129,25 @@ module _ (p : Plan) (r : Expression) (legal : Legal p) (fits : statesOf r (p .al
     (sets : Sets p (table p r) edgeRule M) where
   -- s stands at all exits
   abbrev Ends : ℕ → Type 0
-  Ends = AtExits (place M) (exitOf p) mustEnd (length (p .jobs))
+  Ends = AtExits (place M) (exitOf p) (mustEnd p) (length (p .jobs))
 
   -- it is state 0, or some node holds it
   abbrev Somewhere : ℕ → Type 0
   Somewhere s = (s ≡ 0) ⊎ ((n : ℕ) × In s (place M n))
 
+  -- of jobs one has to end, or 21 would apply
+  at-end : {j : Job} {l : List Job} → p .jobs ≡ j ∷ l → (i : ℕ) × (i < length (p .jobs)) × (mustEnd p i ≡ true)
+  at-end e = legal .ending (subst (λ (x : List Job). 0 < length x) (sym e) (omega arith))
+
   pub final-of-reached : (s : ℕ) → In s (finalSet p M) ↔ (Somewhere s × Ends s)
   final-of-reached s = (
-    (λ i. let f = in-final (place M) (exitOf p) mustEnd (length (p .jobs)) s .0 i in (somewhere (p .jobs) refl (f .0) (f .1), f .1)),
-    (λ h. in-final (place M) (exitOf p) mustEnd (length (p .jobs)) s .1 (held (p .jobs) refl (h .0) (h .1), h .1)),
+    (λ i. let f = in-final (place M) (exitOf p) (mustEnd p) (length (p .jobs)) s .0 i in (somewhere (p .jobs) refl (f .0) (f .1), f .1)),
+    (λ h. in-final (place M) (exitOf p) (mustEnd p) (length (p .jobs)) s .1 (held (p .jobs) refl (h .0) (h .1), h .1)),
   )
     where
       somewhere : (l : List Job) → p .jobs ≡ l → In s (together (length (p .jobs))) → Ends s → Somewhere s
       somewhere [] e i h = inl (held-by-none s .0 (subst (λ (x : List Job). In s (together (length x))) e i))
-      somewhere (j ∷ l) e i h = inr (exitOf p 0, h 0 (subst (λ (x : List Job). 0 < length x) (sym e) (omega arith)) refl)
+      somewhere (j ∷ l) e i h = let one = at-end e in inr (exitOf p (one .0), h (one .0) (one .1) (one .2))
 
       held : (l : List Job) → p .jobs ≡ l → Somewhere s → Ends s → In s (together (length (p .jobs)))
       held [] e from h =
@@ -152,5 +156,6 @@ module _ (p : Plan) (r : Expression) (legal : Legal p) (fits : statesOf r (p .al
       held (j ∷ l) e from h =
           let some-job : 0 < length (p .jobs) = subst (λ (x : List Job). 0 < length x) (sym e) (omega arith) in
           let known = states-known p r fits in
-          let below = states-below p legal (table p r) edgeRule M (λ n u i. sets .tell n u .0 i) (states p r) (known .0) (moves-below p r fits) (exitOf p 0) s (h 0 some-job refl) in
+          let one = at-end e in
+          let below = states-below p legal (table p r) edgeRule M (λ n u i. sets .tell n u .0 i) (states p r) (known .0) (moves-below p r fits) (exitOf p (one .0)) s (h (one .0) (one .1) (one .2)) in
           held-together (length (p .jobs)) s some-job (omega (arith, known .1, below))

@@ -9,7 +9,7 @@ use lib.Dec.{ltb}
 use Rattle.regex.specs.Items.{arity}
 use Rattle.sections.specs.Layout.{planOf}
 use Rattle.plan.specs.Checks.{Check, refuse, first, orElse}
-use Rattle.plan.specs.Refusals.{tooShort, countsWrong, cutShort, filled, wrongSizes, strayEnds, splitEnds, exitLeft, noChannel, framing, shape, order}
+use Rattle.plan.specs.Refusals.{tooShort, countsWrong, cutShort, filled, wrongSizes, strayEnds, noneEnds, splitEnds, exitLeft, noChannel, framing, shape, order}
 use Rattle.plan.proofs.Tests.{first-append, first-last, first-said}
 use Rattle.item.specs.Faults.{Point, cut, kindAt, setAt, itemAt, isEvents, strange, faults}
 use Rattle.items.specs.Refusals.{Read, faulty, upTo, Spot, pointOf, judged, oneMore, read, notOne, trailing, refusalOf, itemsRefusal}
@@ -43,7 +43,7 @@ nothing-above : {A : Type 0} (a : A) → first [] a ≡ some 0 → ⊥
 unfolding first
 nothing-above a = none-zero
 
--- ---- 1 to 9
+-- ---- 1 to 9, and 21
 
 framing-above : (b : List ℕ) → first framing b ≡ some 0 → ⊥
 framing-above b = above 0 tooShort _ b (above 1 countsWrong _ b (above 2 cutShort _ b (above 3 filled _ b (nothing-above b))))
@@ -51,7 +51,7 @@ framing-above b = above 0 tooShort _ b (above 1 countsWrong _ b (above 2 cutShor
 shape-above : (b : List ℕ) → first shape (planOf b) ≡ some 0 → ⊥
 shape-above b =
     let p = planOf b in
-    above 4 wrongSizes _ p (above 5 strayEnds _ p (above 6 splitEnds _ p (above 7 exitLeft _ p (above 8 noChannel _ p (nothing-above p)))))
+    above 4 wrongSizes _ p (above 5 strayEnds _ p (above 20 noneEnds _ p (above 6 splitEnds _ p (above 7 exitLeft _ p (above 8 noChannel _ p (nothing-above p))))))
 
 order-above : (b : List ℕ) → first order b ≡ some 0 → ⊥
 order-above b e =

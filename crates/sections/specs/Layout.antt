@@ -1,4 +1,4 @@
--- Where the sections of a plan stand in its bits, and what they say. Document 01, "The bit-packed plan", the table.
+-- Where the sections of a plan stand in its bits, and what they say. Document 01, "The bit-packed plan", the table; document 02, order 5.
 use Prim.Native.Nat.{ℕ, _+_, _*_, _/_, _≤_}
 use mathlib.Core.List.{List}
 use lib.ListN.{length}
@@ -27,8 +27,12 @@ alphabetAt = 54
 abbrev pub jobsAt : ℕ
 jobsAt = alphabetAt + 31
 
+-- "each job: size 9, entry node 8, exit node 8"; order 5: "a last bit, 26 bits in all"
+abbrev pub jobBits : ℕ
+jobBits = 26
+
 abbrev pub stepsAt : Head → ℕ
-stepsAt h = jobsAt + 25 * h .jobs
+stepsAt h = jobsAt + jobBits * h .jobs
 
 abbrev pub channelsAt : Head → ℕ
 channelsAt h = stepsAt h + 21 * h .steps
@@ -47,9 +51,9 @@ endAt h = acceptsAt h + 22 * h .accepts
 abbrev pub patternAt : Head → ℕ
 patternAt h = (endAt h + 7) / 8
 
--- "each job: size 9, entry node 8, exit node 8"
+-- the fields of a job
 abbrev pub jobAt : List ℕ → ℕ → Job
-jobAt b at = record { size = fieldAt b at 9; entry = fieldAt b (at + 9) 8; exit = fieldAt b (at + 17) 8 }
+jobAt b at = record { size = fieldAt b at 9; entry = fieldAt b (at + 9) 8; exit = fieldAt b (at + 17) 8; standing = fieldAt b (at + 25) 1 }
 
 -- "each local step: from 8, to 8, event 5"; "each call, then each accept: from 8, to 8, channel 6"
 abbrev pub arcAt : List ℕ → ℕ → ℕ → Arc
@@ -60,7 +64,7 @@ abbrev pub arcsAt : List ℕ → ℕ → ℕ → ℕ → List Arc
 arcsAt b width at n = row n (λ i. arcAt b width (at + (16 + width) * i))
 
 abbrev pub jobsOf : List ℕ → Head → List Job
-jobsOf b h = row (h .jobs) (λ i. jobAt b (jobsAt + 25 * i))
+jobsOf b h = row (h .jobs) (λ i. jobAt b (jobsAt + jobBits * i))
 
 abbrev pub channelsOf : List ℕ → Head → List ℕ
 channelsOf b h = row (h .channels) (λ i. fieldAt b (channelsAt h + 5 * i) 5)

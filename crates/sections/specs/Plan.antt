@@ -1,15 +1,22 @@
 -- What a plan says, as lists. Document 01, "The bit-packed plan".
 use Prim.Native.Nat.{ℕ, zero, suc}
+use mathlib.Core.Bool.{Bool}
 use mathlib.Core.List.{List, []}
+use lib.Dec.{eqb}
 use lib.ListN.{getD}
 use Rattle.sections.specs.declared.Kind.{Kind}
 use Rattle.sections.specs.declared.Kind.the-variants.{Every, None}
 
--- "each job: size 9, entry node 8, exit node 8"
+-- "each job: size 9, entry node 8, exit node 8". Order 5: "Each job's record gains a last bit, 26 bits in all"
 pub record Job : Type 0 where
   pub size : ℕ
   pub entry : ℕ
   pub exit : ℕ
+  pub standing : ℕ
+
+-- what that bit says, order 5: "1 is a standing job"
+abbrev pub stands : (standing : ℕ) → Bool
+stands bit = eqb bit 1
 
 -- A local step, whose label is its event; or a call or an accept, whose label is its channel.
 pub record Arc : Type 0 where

@@ -2,7 +2,7 @@
 ghost use mathlib.Core.Path.{_≡_};
 ghost use Prim.Native.Nat.{_<_, _≤_};
 ghost use lib.ListN.{length};
-ghost use Rattle.sections.specs.Plan.{nothing};
+ghost use Rattle.sections.specs.Plan.{nothing, stands};
 ghost use Rattle.sections.specs.Layout.{headOf, endAt};
 ghost use Rattle.sections.specs.Tables.{decodedOf};
 
@@ -24,11 +24,12 @@ pub struct Head {
     pub items: usize,
 }
 
-// The jobs, a place in each array for each.
+// The jobs, a place in each array for each; `standing` has the last bits of their records.
 pub struct Jobs {
     pub size: [u16; 16],
     pub entry: [u8; 16],
     pub exit: [u8; 16],
+    pub standing: [u8; 16],
     pub count: usize,
 }
 
@@ -58,6 +59,13 @@ pub fn byte(n: u8) -> usize
     n as usize
 }
 
+// Whether the last bit of a job's record says that it stands.
+pub fn is_standing(bit: u8) -> bool
+    ensures { λ r. ⌜ r ≡ stands bit ⌝ }
+{
+    bit == 1
+}
+
 // The head, 54 bits.
 pub fn read_head(plan: &[u8]) -> Head
     requires { ⌜ 7 ≤ length (now plan) ⌝ }
@@ -80,7 +88,7 @@ pub fn end_of(h: Head) -> usize
     requires { ⌜ (h .jobs ≤ 16) × (h .steps ≤ 256) × (h .channels ≤ 64) × (h .calls ≤ 128) × (h .accepts ≤ 128) ⌝ }
     ensures { λ r. ⌜ r ≡ endAt h ⌝ }
 {
-    85 + 25 * h.jobs + 21 * h.steps + 5 * h.channels + 22 * h.calls + 22 * h.accepts
+    85 + 26 * h.jobs + 21 * h.steps + 5 * h.channels + 22 * h.calls + 22 * h.accepts
 }
 
 // The tables of no plan.
@@ -96,6 +104,7 @@ pub fn blank() -> Decoded
             size: [0; 16],
             entry: [0; 16],
             exit: [0; 16],
+            standing: [0; 16],
             count: 0,
         },
         steps: 0,

@@ -16,7 +16,7 @@ use Rattle.sections.specs.declared.Decoded.{Decoded}
 use Rattle.sections.specs.Plan.{Job, kindOf}
 use Rattle.rows.specs.Rows.{row, padded}
 use Rattle.rows.proofs.Rows.{row-length}
-use Rattle.sections.specs.Tables.{sizes, entries, exits, jobTable, channelTable, decodedOf}
+use Rattle.sections.specs.Tables.{sizes, entries, exits, standings, jobTable, channelTable, decodedOf}
 
 -- ---- records of k bits, one after the other
 
@@ -40,10 +40,11 @@ pub channels-read : (f : ℕ → ℕ) (i n : ℕ) → i ≡ n → (event : List 
     → _≡_ {A = Channels} (record { event = event; count = n }) (channelTable (row n f))
 channels-read f i n e event p = cc (row-length f n)
 
-pub jobs-read : (f : ℕ → Job) (i n : ℕ) → i ≡ n → (size entry exit : List ℕ)
+pub jobs-read : (f : ℕ → Job) (i n : ℕ) → i ≡ n → (size entry exit standing : List ℕ)
     → size ≡ padded 16 (sizes (row i f)) → entry ≡ padded 16 (entries (row i f)) → exit ≡ padded 16 (exits (row i f))
-    → _≡_ {A = Jobs} (record { size = size; entry = entry; exit = exit; count = n }) (jobTable (row n f))
-jobs-read f i n e size entry exit p q r = cc (row-length f n)
+    → standing ≡ padded 16 (standings (row i f))
+    → _≡_ {A = Jobs} (record { size = size; entry = entry; exit = exit; standing = standing; count = n }) (jobTable (row n f))
+jobs-read f i n e size entry exit standing p q r t = cc (row-length f n)
 
 pub sections-read : (b : List ℕ) (h : Head) (kind : Kind) (alphabet : ℕ) (jobs : Jobs) (channels : Channels)
     → kind ≡ kindOf (h .kind) → alphabet ≡ eventsAt b alphabetAt → jobs ≡ jobTable (jobsOf b h) → channels ≡ channelTable (channelsOf b h)

@@ -10,7 +10,7 @@ ghost use lib.ListN.{length};
 ghost use Rattle.fields.specs.Bits.{fieldAt};
 ghost use Rattle.rows.specs.Rows.{row};
 ghost use Rattle.sections.specs.Plan.{kindOf};
-ghost use Rattle.sections.specs.Layout.{jobAt, arcAt, planUnder, Readable};
+ghost use Rattle.sections.specs.Layout.{jobBits, jobAt, arcAt, planUnder, Readable};
 ghost use Rattle.sections.specs.Tables.{jobTable, channelTable, decodedOf};
 ghost use Rattle.words.specs.Words.{Packed, Worded};
 
@@ -22,24 +22,27 @@ fn kind_of(bit: usize) -> Kind
 
 // The jobs that stand from place `at` on.
 fn read_jobs(plan: &[u8], at: usize, count: usize) -> Jobs
-    requires { ⌜ (count ≤ 16) × (at ≤ 16384) × (at + 25 * count ≤ 8 * length (now plan)) ⌝ }
-    ensures { λ r. ⌜ r ≡ jobTable (row count (λ (i : ℕ). jobAt (now (plan .entry)) (at + 25 * i))) ⌝ }
+    requires { ⌜ (count ≤ 16) × (at ≤ 16384) × (at + jobBits * count ≤ 8 * length (now plan)) ⌝ }
+    ensures { λ r. ⌜ r ≡ jobTable (row count (λ (i : ℕ). jobAt (now (plan .entry)) (at + jobBits * i))) ⌝ }
 {
     let mut size = [0u16; 16];
     let mut entry = [0u8; 16];
     let mut exit = [0u8; 16];
+    let mut standing = [0u8; 16];
     let mut i: usize = 0;
     while i < count {
-        let b = at + 25 * i;
+        let b = at + 26 * i;
         size[i] = fields::field(plan, b, 9) as u16;
         entry[i] = fields::field(plan, b + 9, 8) as u8;
         exit[i] = fields::field(plan, b + 17, 8) as u8;
+        standing[i] = fields::field(plan, b + 25, 1) as u8;
         i += 1;
     }
     Jobs {
         size: size,
         entry: entry,
         exit: exit,
+        standing: standing,
         count: count,
     }
 }
@@ -89,7 +92,7 @@ pub fn decode(plan: &[u8], h: Head, words: &mut [u32; 512]) -> Decoded
     requires { ⌜ Readable (now plan) h × (length (now words) ≡ 512) ⌝ }
     ensures { λ r. ⌜ (r ≡ decodedOf (planUnder (now (plan .entry)) h)) × Worded (planUnder (now (plan .entry)) h) (now (words .entry)) (now (words .exit)) ⌝ }
 {
-    let steps_at = 85 + 25 * h.jobs;
+    let steps_at = 85 + 26 * h.jobs;
     let channels_at = steps_at + 21 * h.steps;
     let calls_at = channels_at + 5 * h.channels;
     let accepts_at = calls_at + 22 * h.calls;

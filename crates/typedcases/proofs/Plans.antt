@@ -15,7 +15,7 @@ use Rattle.plan.specs.Checks.{first, anyFrom}
 use Rattle.plan.specs.Nodes.{ownersFrom, total}
 use Rattle.plan.specs.Refusals.{countsOutside}
 use Rattle.plan.proofs.Cases as plans
-use Rattle.plan.proofs.Cases.{P, Fields, packed, head, job, step, agree}
+use Rattle.plan.proofs.Cases.{P, Fields, packed, head, job, service, step, agree}
 use Rattle.regex.specs.Items.{pushAll}
 use Rattle.regex.specs.Positions as positions
 use Rattle.numbering.specs.Numbering.{index, collect, build, states}
@@ -192,9 +192,23 @@ of-no-jobs =
     ∷ refused (packed (head 0 1 0 0 0 0 1) ++ packed (one (1 ∷ []))) (text "a;") [] 5  -- jobs 0 with nodes, and 18
     ∷ []
 
+-- order 5: two jobs, the alphabet and pattern of P; the first goes 0 to 1 by event 1, and one of them stands
+abbrev beside : (first second : Fields) → List ℕ
+beside first second = packed (head 2 3 1 0 0 0 1 ++ first ++ second ++ step 0 1 1) ++ packed (one (1 ∷ []))
+
+abbrev of-standing : List TypedCase
+of-standing =
+    -- the standing job may have moved in the end, or not
+    verified (beside (service 2 0 0) (job 1 2 2)) (text "a|0") three (counts 3 0 1 4 44 3) (1 ∷ 2 ∷ 3 ∷ [])
+    ∷ inconclusive (beside (service 2 0 0) (job 1 2 2)) (text "0") three (counts 2 0 1 4 67 3) (1 ∷ 2 ∷ 3 ∷ [])
+    ∷ verified (beside (job 2 0 1) (service 1 2 2)) (text "a") three (counts 3 0 1 4 44 2) (1 ∷ 2 ∷ 3 ∷ [])
+    ∷ refused (beside (service 2 0 0) (service 1 2 2)) (text "a;") three 21  -- 21 and 18
+    ∷ refused (beside (service 2 0 1) (service 1 2 2)) (text "a") three 6  -- 6 and 21
+    ∷ []
+
 -- the table
 abbrev pub cases : List TypedCase
-cases = of-two-jobs ++ of-P ++ of-many-states ++ own-items ++ overlaps ++ of-no-jobs
+cases = of-two-jobs ++ of-P ++ of-many-states ++ own-items ++ overlaps ++ of-no-jobs ++ of-standing
 
 -- by 100 steps of reading and two rounds of the rules, which are enough for all of them
 abbrev found : TypedCase → Option Outcome

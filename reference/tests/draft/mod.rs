@@ -3,12 +3,12 @@
 // No test file uses all of this.
 #![allow(dead_code)]
 
-use reference::{judge, Answer, Counts, Item};
+use reference::{judge, judge_text, pattern_part, Answer, Counts, Item};
 
-/// Plan P as printed.
+/// Plan P as printed, its bytes `04 20` made `02 10` (order 5).
 pub const P: [u8; 22] = [
-    0x08, 0x08, 0x02, 0x00, 0x00, 0x00, 0x06, 0x00, 0x00, 0x00, 0x00, 0x08, 0x00, 0x04, 0x00, 0x04,
-    0x20, 0x30, 0x00, 0x00, 0x00, 0x00,
+    0x08, 0x08, 0x02, 0x00, 0x00, 0x00, 0x06, 0x00, 0x00, 0x00, 0x00, 0x08, 0x00, 0x04, 0x00, 0x02,
+    0x10, 0x30, 0x00, 0x00, 0x00, 0x00,
 ];
 
 pub const EVERY: u64 = 0;
@@ -16,6 +16,9 @@ pub const NONE: u64 = 1;
 
 /// What stands in the places of a row before a plan is judged.
 pub const UNTOUCHED: u64 = 0xDEAD;
+
+/// Numbers of places of the rows lent.
+const ROWS: [usize; 5] = [0, 1, 2, 256, 300];
 
 /// Writes fields, the most significant bit first.
 #[derive(Default)]
@@ -61,12 +64,14 @@ pub fn events(events: &[u64]) -> Item {
 }
 
 /// A plan to be written. Jobs are size, entry, exit; steps are from, to,
-/// event; calls and accepts are from, to, channel.
+/// event; calls and accepts are from, to, channel. The jobs whose numbers are
+/// in `standing`, from 0 on, are standing jobs (order 5).
 #[derive(Clone, Debug)]
 pub struct Draft {
     pub kind: u64,
     pub alphabet: Vec<u64>,
     pub jobs: Vec<[u64; 3]>,
+    pub standing: Vec<usize>,
     pub steps: Vec<[u64; 3]>,
     pub channels: Vec<u64>,
     pub calls: Vec<[u64; 3]>,
@@ -81,6 +86,7 @@ impl Draft {
             kind: EVERY,
             alphabet: alphabet.to_vec(),
             jobs: vec![[2, 0, 1]],
+            standing: vec![],
             steps: vec![],
             channels: vec![],
             calls: vec![],
@@ -153,7 +159,10 @@ impl Draft {
         writer.put(1, self.kind);
         writer.put(7, self.items.len() as u64);
         writer.put_events(set(&self.alphabet));
-        put_each(&mut writer, &self.jobs, [9, 8, 8]);
+        for (number, job) in self.jobs.iter().enumerate() {
+            put_each(&mut writer, &[*job], [9, 8, 8]);
+            writer.put(1, self.standing.contains(&number).into());
+        }
         put_each(&mut writer, &self.steps, [8, 8, 5]);
         for &event in &self.channels {
             writer.put(5, event);
@@ -204,4 +213,53 @@ pub fn counts(answer: Answer) -> Counts {
         Answer::Verified(counts) | Answer::Inconclusive(counts) => counts,
         Answer::Refused(number) => panic!("refused {number}"),
     }
+}
+
+/// The answer with rows of no place and of some. None of their places changes.
+fn answer(plan: &[u8], judge: impl Fn(&[u8], &mut [u64]) -> Answer) -> Answer {
+    let answers = ROWS.map(|places| {
+        let mut row = vec![UNTOUCHED; places];
+        let answer = judge(plan, &mut row);
+        assert!(row.iter().all(|&place| place == UNTOUCHED));
+        answer
+    });
+    assert_eq!(answers, [answers[0]; ROWS.len()]);
+    answers[0]
+}
+
+pub fn judged(plan: &[u8]) -> Answer {
+    answer(plan, judge)
+}
+
+pub fn typed(plan: &[u8], text: &str) -> Answer {
+    answer(plan, |plan, row| judge_text(plan, text.as_bytes(), row))
+}
+
+/// A refusal of 1 to 15 or 21, under a text too, be it right or wrong.
+pub fn assert_refused(plan: &[u8], number: u32) {
+    assert_eq!(judged(plan), Answer::Refused(number));
+    for text in ["0", "", "z"] {
+        assert_eq!(typed(plan, text), Answer::Refused(number), "{text:?}");
+    }
+    assert_eq!(pattern_part(plan), 0..0);
+}
+
+/// A plan with one byte changed in these bits.
+pub fn turned(plan: &[u8], byte: usize, bits: u8) -> Vec<u8> {
+    let mut turned = plan.to_vec();
+    turned[byte] ^= bits;
+    turned
+}
+
+/// A local step, a call and an accept, each alone. One channel.
+pub fn with_an_arc(draft: &Draft, arc: [u64; 3]) -> [Draft; 3] {
+    let plain = Draft {
+        channels: vec![0],
+        ..draft.clone()
+    };
+    let mut drafts = [plain.clone(), plain.clone(), plain];
+    drafts[0].steps = vec![arc];
+    drafts[1].calls = vec![arc];
+    drafts[2].accepts = vec![arc];
+    drafts
 }

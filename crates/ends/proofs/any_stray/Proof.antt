@@ -44,6 +44,12 @@ element-copy-out-byte-4 c = c .before .before .byte2 .ensures .1
 byte-requires-4 : tie.Need-byte-requires-4 Inv-loop μ-loop
 byte-requires-4 c κs = tt
 
+element-copy-out-is-standing : tie.Need-element-copy-out-is-standing Inv-loop μ-loop
+element-copy-out-is-standing c = omega arith
+
+is-standing-requires : tie.Need-is-standing-requires Inv-loop μ-loop
+is-standing-requires c κs = tt
+
 add-i : tie.Need-add-i Inv-loop μ-loop
 add-i c = omega arith
 
@@ -52,12 +58,16 @@ loop-less c = omega arith
 
 loop-again : tie.Need-loop-again Inv-loop μ-loop
 loop-again c =
-    let args = c .before .before .before .before .before .before .before .before .before .before .args in
-    let jobs = args .t3 in
-    let loop = c .before .before .before .before .before .before .before .before .before .loop in (
+    let four = c .before .before in
+    let three = four .before .before in
+    let two = three .before .before in
+    let one = two .before .before in
+    let at = one .before .before .before in
+    let args = at .before .args in
+    let loop = at .loop in (
       omega arith,
-      any-turn (stray (args .nodes) (place (args .owner .now))) (jobIn jobs) (loop .i) (loop .found) _ (loop .inv .1)
-          (stray-read (args .owner .now) (args .nodes) jobs (loop .i) _ _ _ _ (c .before .before .before .before .before .before .byte .ensures .0) (c .before .before .before .before .byte2 .ensures .0) (c .before .before .byte3 .ensures .0) (c .byte4 .ensures .0)),
+      any-turn (stray (args .nodes) (place (args .owner .now))) (jobIn (args .t3)) (loop .i) (loop .found) _ (loop .inv .1)
+          (stray-read (args .owner .now) (args .nodes) (args .t3) (loop .i) _ _ _ _ _ (one .byte .ensures .0) (two .byte2 .ensures .0) (three .byte3 .ensures .0) (four .byte4 .ensures .0) (c .is-standing .ensures)),
     )
 
 returns : tie.Need-returns Inv-loop μ-loop
@@ -81,6 +91,8 @@ any-stray-spec =
     byte-requires-3
     element-copy-out-byte-4
     byte-requires-4
+    element-copy-out-is-standing
+    is-standing-requires
     add-i
     loop-less
     loop-again

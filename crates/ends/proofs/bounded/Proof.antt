@@ -5,16 +5,16 @@ use Rattle.ends.proofs.bounded.Statement.{statement}
 use Rattle.ends.proofs.bounded.Tie as tie
 
 find-faults-requires : tie.Need-find-faults-requires
-find-faults-requires c κs = let l = c .before .pre .1 in (omega (arith, few-steps l), owners-few l)
+find-faults-requires c κs = let l = c .before .before .pre .1 in (omega (arith, few-steps l), owners-few l)
 
 find-faults-requires-2 : tie.Need-find-faults-requires-2
-find-faults-requires-2 c κs = let l = c .before .before .pre .1 in (omega (arith, few-calls l), owners-few l)
+find-faults-requires-2 c κs = let l = c .before .before .before .pre .1 in (omega (arith, few-calls l), owners-few l)
 
 find-faults-requires-3 : tie.Need-find-faults-requires-3
-find-faults-requires-3 c κs = let l = c .before .before .before .pre .1 in (omega (arith, few-accepts l), owners-few l)
+find-faults-requires-3 c κs = let l = c .before .before .before .before .pre .1 in (omega (arith, few-accepts l), owners-few l)
 
 first-of-requires : tie.Need-first-of-requires
-first-of-requires c κs = few-jobs (c .before .before .before .before .pre .1)
+first-of-requires c κs = few-jobs (c .before .before .before .before .before .pre .1)
 
 returns : tie.Need-returns
 returns c p l =

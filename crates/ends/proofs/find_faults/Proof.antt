@@ -5,6 +5,7 @@ use Prim.Native.Nat.{ℕ, _-_, _≤_}
 use native.Mathlib.Omega.{arith}
 use Rattle.sections.specs.Plan.{Arc}
 use Rattle.rows.specs.Rows.{row, place}
+use Rattle.sections.specs.Tables.{endBy}
 use Rattle.ends.specs.declared.Faults.{Faults}
 use Rattle.plan.specs.Checks.{any}
 use Rattle.plan.specs.Refusals.{apart as apart-test, leaving as leaving-test, unknown as unknown-test}
@@ -19,7 +20,7 @@ abbrev Inv-loop : tie.InvT-loop
 Inv-loop owner words at count g nodes channels apart₀ leaving₀ unknown₀ i₀ apart leaving unknown i =
     (i ≤ count)
     × (apart ≡ any (apart-test (g .nodes) (place owner)) (row i (arcOn words at)))
-    × (leaving ≡ any (leaving-test (place owner) (place (g .exit))) (row i (arcOn words at)))
+    × (leaving ≡ any (leaving-test (place owner) (place (g .exit)) (endBy (g .standing))) (row i (arcOn words at)))
     × (unknown ≡ any (unknown-test (g .channels)) (row i (arcOn words at)))
 
 abbrev μ-loop : tie.MeasureT-loop
@@ -39,7 +40,7 @@ loop-holds c =
     let owner = c .args .owner .now in (
       omega arith,
       none (apart-test (g .nodes) (place owner)) (arc-of c),
-      none (leaving-test (place owner) (place (g .exit))) (arc-of c),
+      none (leaving-test (place owner) (place (g .exit)) (endBy (g .standing))) (arc-of c),
       none (unknown-test (g .channels)) (arc-of c),
     )
 
@@ -79,6 +80,12 @@ element-copy-out-byte-3 c = rw (c .before .before .byte .ensures .0) (c .before 
 byte-requires-3 : tie.Need-byte-requires-3 Inv-loop μ-loop
 byte-requires-3 c κs = tt
 
+element-copy-out-is-standing : tie.Need-element-copy-out-is-standing Inv-loop μ-loop
+element-copy-out-is-standing c = rw (c .before .before .before .before .byte .ensures .0) (c .before .before .before .before .before .before .before .before .before .before .before .before .pre .1 _)
+
+is-standing-requires : tie.Need-is-standing-requires Inv-loop μ-loop
+is-standing-requires c κs = tt
+
 add-i : tie.Need-add-i Inv-loop μ-loop
 add-i c = omega arith
 
@@ -87,20 +94,23 @@ loop-less c = omega arith
 
 loop-again : tie.Need-loop-again Inv-loop μ-loop
 loop-again c =
-    let at = c .before .before .before .before .before .before .before .before .before .before .before in
+    let three = c .before .before in
+    let one = three .before .before .before .before in
+    let in-loop = one .before .before .before .before .before .before in
+    let at = in-loop .before in
     let start = at .before in
     let g = start .args .t1 in
     let owner = start .args .owner .now in
     let arc = arc-of start in
     let loop = at .loop in
-    let from = c .before .before .before .before .before .before .before .before .from-of .ensures .0 in
-    let job = c .before .before .before .before .byte .ensures .0 in (
-      omega arith,
+    let from = one .before .before .before .before .from-of .ensures .0 in
+    let job = one .byte .ensures .0 in (
+      omega (arith, in-loop .loop-test .taken),
       any-turn (λ (k : ℕ). apart-test (g .nodes) (place owner)) arc (loop .i) (loop .apart) _ (loop .inv .1)
-          (apart-read owner g (arc (loop .i)) _ from _ _ _ (c .before .before .before .before .before .before .before .to-of .ensures .0) job (c .before .before .byte2 .ensures .0)),
-      any-turn (λ (k : ℕ). leaving-test (place owner) (place (g .exit))) arc (loop .i) (loop .leaving) _ (loop .inv .2)
-          (leaving-read owner g (arc (loop .i)) _ from _ _ job (c .byte3 .ensures .0)),
-      any-turn (λ (k : ℕ). unknown-test (g .channels)) arc (loop .i) (loop .unknown) _ (loop .inv .3) (unknown-read g (arc (loop .i)) _ (c .before .before .before .before .before .before .label-of .ensures)),
+          (apart-read owner g (arc (loop .i)) _ from _ _ _ (one .before .before .before .to-of .ensures .0) job (three .before .before .byte2 .ensures .0)),
+      any-turn (λ (k : ℕ). leaving-test (place owner) (place (g .exit)) (endBy (g .standing))) arc (loop .i) (loop .leaving) _ (loop .inv .2)
+          (leaving-read owner g (arc (loop .i)) _ from _ _ _ job (three .byte3 .ensures .0) (c .is-standing .ensures)),
+      any-turn (λ (k : ℕ). unknown-test (g .channels)) arc (loop .i) (loop .unknown) _ (loop .inv .3) (unknown-read g (arc (loop .i)) _ (one .before .before .label-of .ensures)),
     )
 
 returns : tie.Need-returns Inv-loop μ-loop
@@ -133,6 +143,8 @@ find-faults-spec =
     byte-requires-2
     element-copy-out-byte-3
     byte-requires-3
+    element-copy-out-is-standing
+    is-standing-requires
     add-i
     loop-less
     loop-again
