@@ -34,7 +34,7 @@ fn of_p(name: &[u8], which: u8, text: &[u8], places: usize)
     }
 }
 
-// Plans with larger alphabets, and one without jobs.
+// Plans with larger alphabets, one without jobs, and two with a job that stands.
 fn of_others(name: &[u8], which: u8, text: &[u8], places: usize)
     requires { ⌜ places ≤ 8 ⌝ }
 {
@@ -70,6 +70,25 @@ fn of_others(name: &[u8], which: u8, text: &[u8], places: usize)
         replay(
             name,
             b"\x00\x00\x00\x00\x00\x00\x06\x00\x00\x00\x00\x30\x00\x00\x00\x00",
+            text,
+            places,
+        );
+    }
+    // a memory that stands, accepts 0 to 1 by event 1 and 1 to 1 by event 2; two jobs call it, 2 to 3 and 4 to 5, and the second goes on to 6 by
+    // event 3; the pattern is 1, then 2, then 3
+    if which == b'S' {
+        replay(
+            name,
+            b"\x18\x1c\x04\x04\x04\x08\x17\x80\x00\x00\x00\x08\x00\x02\x02\x02\x03\x00\xc1\x01\x80\x20\x20\x05\x06\x18\x44\x04\x06\x00\x20\x28\x20\x00\x20\x00\x80\x82\x30\x00\x00\x00\x0a\x00\x00\x00\x04\x48\x00\x00\x00\x20",
+            text,
+            places,
+        );
+    }
+    // the same without the two jobs that end, which is refused by 21
+    if which == b'N' {
+        replay(
+            name,
+            b"\x08\x08\x02\x00\x04\x08\x17\x80\x00\x00\x00\x08\x00\x02\x02\x02\x00\x88\x00\x04\x00\x10\x10\x40\x30\x00\x00\x00\x0a\x00\x00\x00\x04\x48\x00\x00\x00\x20",
             text,
             places,
         );
