@@ -1,2 +1,2 @@
--- What the tests of refusals 6 to 9 go by.
+-- What the tests of refusals 6, 21, and 7 to 9 go by.
 pub mod Faults

@@ -1,4 +1,4 @@
--- Whole plans with their patterns: what the checks 1 to 16 answer, how many states, which part, by evaluation.
+-- Whole plans with their patterns: what the checks 1 to 16 and 21 answer, how many states, which part, by evaluation.
 use mathlib.Core.Path.{_≡_, refl}
 use mathlib.Core.List.{List, [], _∷_, _++_, map, List·Memᴰ}
 use mathlib.Core.Option.{Option, none, some, Option·map}

@@ -1,4 +1,4 @@
--- The pattern part, by which refusals apply: it is empty if and only if one of 1 to 16 does. Assumes nothing.
+-- The pattern part, by which refusals apply: it is empty if and only if one of 1 to 16 or 21 does. Assumes nothing.
 use mathlib.Core.Path.{_≡_, refl, sym, ap, _∙_}
 use mathlib.Core.Bool.{Bool, true, false, cond}
 use mathlib.Core.List.{List, []}
@@ -75,7 +75,7 @@ module _ (b : List ℕ) where
   decided-by-states passed t e =
       acceptable-parts b ∙ ap (λ (o : Option ℕ). orElse o (cond (tooManyStates b) (some 16) none)) passed ∙ ap (λ (x : Bool). cond x (some 16) none) e
 
--- "The part is empty if and only if one of 1 to 16 applies."
+-- "The part is empty if and only if one of 1 to 16 applies."; order 5: on 21 "the pattern part is empty then too"
 pub part-empty : (b : List ℕ) → (patternPart b ≡ []) ↔ ((n : ℕ) × (first acceptable b ≡ some n))
 part-empty b = (
   (λ e. go (first acceptable b) refl e),

@@ -1,4 +1,4 @@
-// A plan with its pattern: the refusals 1 to 16, and the pattern's part of the plan.
+// A plan with its pattern: the refusals 1 to 16 and 21, and the pattern's part of the plan.
 use items::Items;
 use plan::Outcome;
 use reader::Reading;
@@ -69,7 +69,7 @@ fn few_states(items: Items, alphabet: u32) -> bool
     s.fits
 }
 
-// The pattern's part of an accepted plan, where it stands in it; no bytes where one of 1 to 16 applies.
+// The pattern's part of an accepted plan, where it stands in it; no bytes where one of 1 to 16 or 21 applies.
 pub fn pattern_part(plan: &[u8]) -> &[u8]
     ensures { λ r. ⌜ PartOf (now (plan .entry)) (ptr (plan .entry)) (now r) (ptr r) ⌝ }
 {

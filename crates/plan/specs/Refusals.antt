@@ -1,4 +1,5 @@
--- Document 01, "When a plan is turned down": the refusals 1 to 9, a test each, and their order. Document 02, orders 4 and 5, with refusal 21.
+-- Document 01, "When a plan is turned down": the refusals 1 to 9, a test each, and their order. Document 02, order 4, and
+-- order 5, with refusal 21.
 use Prim.Native.Nat.{ℕ, _-_, _*_}
 use mathlib.Core.Bool.{Bool, _&&_, _||_, not}
 use mathlib.Core.List.{List, [], _∷_, _++_, map}

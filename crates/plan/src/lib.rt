@@ -1,4 +1,4 @@
-// Refusals 1 to 9 of a plan, and those of them that need no node's job: the frame of the bytes, and the sizes of the jobs.
+// Refusals 1 to 9 and 21 of a plan, and those of them that need no node's job: the frame of the bytes, and the sizes of the jobs.
 use sections::Head;
 use sections::Jobs;
 ghost use mathlib.Core.Path.{_≡_};

@@ -20,7 +20,7 @@ pub words-are : (b before after : List ℕ) (o : Option ℕ) → first framing b
 unfolding WordsOf
 words-are b before after o e w = subst (λ (x : Option ℕ). wordsUnder x b before after) (sym e) w
 
--- where none of 1 to 9 applies, the arcs of the plan stand there
+-- where none of 1 to 9 and 21 applies, the arcs of the plan stand there
 pub words-read : (b before after : List ℕ) → first order b ≡ none → WordsOf b before after → Worded (planOf b) before after
 unfolding WordsOf
 words-read b before after passed w = go (first framing b) refl w

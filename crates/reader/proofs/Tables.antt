@@ -1,4 +1,4 @@
--- What the tables that were read tell of the plan, and of refusals 5 to 9. Assumes nothing.
+-- What the tables that were read tell of the plan, and of refusals 5 to 9 and 21. Assumes nothing.
 use mathlib.Core.Path.{_≡_, sym, ap, _∙_, subst}
 use mathlib.Core.Bool.{Bool, true, false}
 use mathlib.Core.Option.{none, some}
@@ -95,7 +95,7 @@ module _ {b : List ℕ} {h : Head} {d : Decoded} {before words : List ℕ} (r : 
     pub nodes-few : w ≡ false → total (sizes (jobsIn (d .jobs))) ≤ 256
     nodes-few e = omega (arith, sizes-right (d .nodes) (jobsIn (d .jobs)) (told test e), ap (λ (t : Decoded). t .nodes) kept, small .nodes)
 
-    -- and 6 to 9 are next
+    -- and 6, 21, and 7 to 9 are next
     pub ends-next : w ≡ false → (o : Outcome) → o ≡ outcomeOf (first ends (planOf b)) → outcomeOf (first shape (planOf b)) ≡ o
     ends-next e o q = ap outcomeOf (shape-past (planOf b) (told wrong e)) ∙ sym q
 

@@ -89,7 +89,7 @@ pub fn read_sections(plan: &[u8], words: &mut [u32; 512]) -> Reading
     }
 }
 
-// The plan that the bytes hold, or the first refusal of 1 to 9 that applies. Where none of 1 to 4 does, its arcs go into the words.
+// The plan that the bytes hold, or the first refusal of 1 to 9 and 21 that applies. Where none of 1 to 4 does, its arcs go into the words.
 pub fn read_plan(plan: &[u8], words: &mut [u32; 512]) -> Reading
     requires { ⌜ length (now words) ≡ 512 ⌝ }
     ensures { λ r. ⌜ (r ≡ readingOf (now (plan .entry))) × WordsOf (now (plan .entry)) (now (words .entry)) (now (words .exit)) ⌝ }

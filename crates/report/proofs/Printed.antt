@@ -47,7 +47,7 @@ enough-places q b = in-order q 256 b ∙ go (first readable b) refl ∙ sym (fir
         ap (λ (t : Bool). orElse (textRefusal q b) (orElse (refuse 16 (manyStates q) b) (cond t (some 17) none)))
         (le-ltb 256 (planOf b .nodes) (legal b (before-items b e) .nodes))
 
--- which are 1 to 16 for a plan on its own
+-- which are 1 to 16 and 21 for a plan on its own
 pub own-refusals : (b : List ℕ) → first (judgeable own 256) b ≡ first acceptable b
 unfolding first
 own-refusals b =

@@ -41,7 +41,7 @@ fn at_end(all: usize, bytes: usize) -> [usize; 2]
     }
 }
 
-// The place of the pattern's part in a plan: its first byte and its length, 0 and 0 where one of 1 to 16 applies.
+// The place of the pattern's part in a plan: its first byte and its length, 0 and 0 where one of 1 to 16 or 21 applies.
 #[no_mangle]
 pub extern "C" fn traceflow_pattern_part(plan: &[u8], place: &mut [usize; 2])
     ensures { λ _. ⌜ now (place .exit) ≡ placeOf (now (plan .entry)) ⌝ }

@@ -1,4 +1,4 @@
--- `read_sections` goes through refusals 5 to 9 in their order. Assumes nothing.
+-- `read_sections` goes through refusals 5 to 9 and 21 in their order. Assumes nothing.
 use mathlib.Core.Path.{_≡_, sym, ap, _∙_}
 use mathlib.Core.Option.{Option}
 use mathlib.Core.List.{List}
@@ -41,7 +41,7 @@ decoded f = sized f .before
 read : (r : tie.After-decode) → Read (bytes r) (r .before .before .read-head .result) (r .decode .result) (begun r .args .words .now) (r .decode .last .1 .1 .0)
 read r = record { passed = begun r .pre .0; head = r .before .before .read-head .ensures; tables = r .decode .ensures .0; arcs = r .decode .ensures .1 }
 
--- refusals 6 to 9 go by their tests
+-- refusals 6, 21, and 7 to 9 go by their tests
 bound : (f : tie.After-bounded) → outcomeOf (first shape (planOf (bytes (decoded f)))) ≡ f .bounded .result
 bound f =
     let r = read (decoded f) in

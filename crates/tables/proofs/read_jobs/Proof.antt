@@ -1,8 +1,10 @@
 -- `read_jobs` fills its arrays from the front: after i turns they hold the first i jobs. Assumes nothing.
 use mathlib.Core.Path.{_≡_, refl}
 use mathlib.Core.List.{List}
-use Prim.Native.Nat.{ℕ, _+_, _-_, _*_, _≤_, _<_}
+use Prim.Native.Nat.{ℕ, _+_, _-_, _*_, _^_, _≤_, _<_}
 use native.Mathlib.Omega.{arith}
+use lib.ListN.{length}
+use Rattle.fields.specs.Bits.{fieldAt}
 use Rattle.fields.proofs.Laws.{field-lt}
 use Rattle.sections.specs.Plan.{Job}
 use Rattle.rows.specs.Rows.{row, padded}
@@ -16,6 +18,10 @@ use Rattle.tables.proofs.read_jobs.Tie as tie
 -- the jobs that the bits say
 abbrev said : List ℕ → ℕ → ℕ → Job
 said plan at k = jobAt plan (at + jobBits * k)
+
+-- a field of so many bits is small, wherever it stands
+below : (b : List ℕ) (at width : ℕ) {n : ℕ} → n ≡ fieldAt b at width → at + width ≤ 8 * length b → n < 2 ^ width
+below b at width e h = rw e (field-lt b at width h)
 
 abbrev Inv-loop : tie.InvT-loop
 Inv-loop plan at count size₀ entry₀ exit₀ standing₀ i₀ size entry exit standing i =
@@ -42,9 +48,7 @@ field-requires : tie.Need-field-requires Inv-loop μ-loop
 field-requires c κs = omega arith
 
 cast-size : tie.Need-cast-size Inv-loop μ-loop
-cast-size c =
-    let args = c .before .before .before .before .args in
-    omega (arith, c .field .ensures, field-lt (args .plan .now) (args .at + jobBits * c .before .before .loop .i) 9 (omega arith))
+cast-size c = omega (arith, below _ _ _ (c .field .ensures) (omega arith))
 
 mul-size : tie.Need-mul-size Inv-loop μ-loop
 mul-size c = omega arith
@@ -59,9 +63,7 @@ field-requires-2 : tie.Need-field-requires-2 Inv-loop μ-loop
 field-requires-2 c κs = omega arith
 
 cast-entry : tie.Need-cast-entry Inv-loop μ-loop
-cast-entry c =
-    let args = c .before .before .before .before .before .args in
-    omega (arith, c .field2 .ensures, field-lt (args .plan .now) (args .at + jobBits * c .before .before .before .loop .i + 9) 8 (omega arith))
+cast-entry c = omega (arith, below _ _ _ (c .field2 .ensures) (omega arith))
 
 array-write-entry : tie.Need-array-write-entry Inv-loop μ-loop
 array-write-entry c = omega arith
@@ -73,9 +75,7 @@ field-requires-3 : tie.Need-field-requires-3 Inv-loop μ-loop
 field-requires-3 c κs = omega arith
 
 cast-exit : tie.Need-cast-exit Inv-loop μ-loop
-cast-exit c =
-    let args = c .before .before .before .before .before .before .args in
-    omega (arith, c .field3 .ensures, field-lt (args .plan .now) (args .at + jobBits * c .before .before .before .before .loop .i + 17) 8 (omega arith))
+cast-exit c = omega (arith, below _ _ _ (c .field3 .ensures) (omega arith))
 
 array-write-exit : tie.Need-array-write-exit Inv-loop μ-loop
 array-write-exit c = omega arith
@@ -87,9 +87,7 @@ field-requires-4 : tie.Need-field-requires-4 Inv-loop μ-loop
 field-requires-4 c κs = omega arith
 
 cast-standing : tie.Need-cast-standing Inv-loop μ-loop
-cast-standing c =
-    let args = c .before .before .before .before .before .before .before .args in
-    omega (arith, c .field4 .ensures, field-lt (args .plan .now) (args .at + jobBits * c .before .before .before .before .before .loop .i + 25) 1 (omega arith))
+cast-standing c = omega (arith, below _ _ _ (c .field4 .ensures) (omega arith))
 
 array-write-standing : tie.Need-array-write-standing Inv-loop μ-loop
 array-write-standing c = omega arith
