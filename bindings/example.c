@@ -1,5 +1,5 @@
-/* Judges plan P and prints its verdict, its sets and where its pattern stands; then judges it by a typed pattern; and last a plan without
- * jobs, which needs no place of the row. */
+/* Judges plan P and prints its verdict, its sets and where its pattern is; then judges it by a typed pattern; then a plan without
+ * jobs, which needs no place of the row; and last a plan of a standing job and one that calls it and ends. */
 #include "traceflow.h"
 #include <inttypes.h>
 #include <stdio.h>
@@ -15,11 +15,22 @@ static void tell(uint32_t refused) {
                counts[TRACEFLOW_VERIFIED] ? "verified" : "inconclusive", counts[TRACEFLOW_STATES], row[0], row[1]);
 }
 
+/* Prints the answer to the plan of this name: the refusal, or the verdict and the final set. */
+static void tell_final(const char *name, uint32_t refused) {
+    if (refused != 0)
+        printf("%s: refused %" PRIu32 "\n", name, refused);
+    else
+        printf("%s: %s, final %" PRIx64 "\n", name, counts[TRACEFLOW_VERIFIED] ? "verified" : "inconclusive", counts[TRACEFLOW_FINAL]);
+}
+
 int main(void) {
     static const uint8_t plan[] = {0x08, 0x08, 0x02, 0x00, 0x00, 0x00, 0x06, 0x00, 0x00, 0x00, 0x00,
-                                   0x08, 0x00, 0x04, 0x00, 0x04, 0x20, 0x30, 0x00, 0x00, 0x00, 0x00};
+                                   0x08, 0x00, 0x04, 0x00, 0x02, 0x10, 0x30, 0x00, 0x00, 0x00, 0x00};
     static const uint8_t text[] = {'a', ';', 'a'};
     static const uint8_t recess[] = {0x00, 0x00, 0x00, 0x00, 0x00, 0x00, 0x04, 0x00, 0x00, 0x00, 0x00, 0x00};
+    static const uint8_t standing[] = {0x10, 0x10, 0x02, 0x02, 0x02, 0x04, 0x17, 0x00, 0x00, 0x00, 0x00, 0x08,
+                                       0x00, 0x02, 0x02, 0x02, 0x03, 0x00, 0x80, 0x08, 0x20, 0x40, 0x60, 0x00,
+                                       0x00, 0x80, 0x30, 0x00, 0x00, 0x00, 0x0a, 0x00, 0x00, 0x00, 0x00, 0xd0};
     size_t place[2];
     tell(traceflow_judge(plan, sizeof plan, row, 256, counts));
     traceflow_pattern_part(plan, sizeof plan, place);
@@ -27,7 +38,7 @@ int main(void) {
     printf("by a;a: ");
     tell(traceflow_judge_text(plan, sizeof plan, text, sizeof text, row, 256, counts));
     printf("\n");
-    if (traceflow_judge(recess, sizeof recess, row, 0, counts) == 0)
-        printf("no jobs: %s, final %" PRIx64 "\n", counts[TRACEFLOW_VERIFIED] ? "verified" : "inconclusive", counts[TRACEFLOW_FINAL]);
+    tell_final("no jobs", traceflow_judge(recess, sizeof recess, row, 0, counts));
+    tell_final("a standing job", traceflow_judge(standing, sizeof standing, row, 256, counts));
     return 0;
 }

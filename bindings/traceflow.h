@@ -20,7 +20,7 @@ enum {
     TRACEFLOW_ORDERING,
     TRACEFLOW_PAIRS,
     TRACEFLOW_FILL,
-    TRACEFLOW_FINAL, /* the final set, state 0 where there are no jobs; state s has weight 2^s */
+    TRACEFLOW_FINAL, /* what the exits of jobs that do not stand have in common, state 0 without jobs; state s has weight 2^s */
     TRACEFLOW_COUNTS
 };
 
@@ -39,7 +39,7 @@ uint32_t traceflow_judge_text(const uint8_t *plan, size_t plan_bytes,
                               uint64_t counts[TRACEFLOW_COUNTS]);
 
 /* Finds the pattern's part of a plan: its first byte in place[0] and its length in place[1]; 0 and 0 where one of the refusals
- * 1 to 16 applies to the plan under its own items. */
+ * 1 to 16 or 21 applies to the plan under its own items. */
 void traceflow_pattern_part(const uint8_t *plan, size_t plan_bytes, size_t place[2]);
 
 #ifdef __cplusplus

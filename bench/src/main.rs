@@ -1,6 +1,5 @@
 //! Times the proved judge against the Rust implementation on families of plans that grow.
 
-mod builder;
 mod families;
 mod patterns;
 mod report;

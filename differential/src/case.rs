@@ -3,37 +3,37 @@
 use crate::draft::{Draft, Item};
 use crate::fault_in_bytes::{self, mangle, noise};
 use crate::filled::filled;
-use crate::layout::{alphabet, NODES};
+use crate::layout::{alphabet, records, Records, NODES};
 use crate::random::Random;
 use crate::recess::recess;
+use crate::refusals::{self, comes_after, ALL_STAND, SHORT_ROW};
 use crate::sound::{any_scale, sound};
+use crate::standing::server;
 use crate::text::{self, Text};
 use crate::{fault_in_items, fault_in_jobs};
 use traceflow::Values;
 
 pub struct Case {
     pub plan: Vec<u8>,
+    /// As its bytes tell them.
+    pub records: Records,
     /// The row before the plan is judged.
     pub row: Vec<u64>,
     /// The places for a verdict before.
     pub values: Values,
-    /// The refusal that the one fault made on purpose must give under the plan's own pattern.
+    /// The refusals whose faults were made on purpose.
+    pub faults: Vec<u32>,
+    /// The refusal that they must give under the plan's own pattern, where that is known.
     pub expected: Option<u32>,
     /// The plan's own items; none where its making does not tell.
     pub items: Vec<Item>,
     pub text: Text,
 }
 
-/// The refusal about the row.
-pub const SHORT_ROW: u32 = 17;
-
-/// One in so many sound plans is one without jobs.
-const RECESS: u32 = 10;
-
 /// The case of this number in the run of this seed.
 pub fn make(seed: u64, number: u64) -> Case {
     let random = &mut Random::for_plan(seed, number);
-    let refusal = |random: &mut Random| random.within(1..=SHORT_ROW);
+    let refusal = |random: &mut Random| random.pick(&refusals::own());
     match random.weighted(&[50, 22, 14, 10, 4]) {
         0 => {
             let draft = if random.one_in(200) {
@@ -60,34 +60,31 @@ pub fn make(seed: u64, number: u64) -> Case {
     }
 }
 
-/// A sound plan: with jobs, of any scale, or without.
+/// A sound plan: with jobs, of any scale, with a memory server, or without jobs.
 fn any_sound(random: &mut Random) -> Draft {
-    if random.one_in(RECESS) {
-        recess(random)
-    } else {
-        sound(any_scale(random), random)
+    match random.weighted(&[82, 8, 10]) {
+        0 => sound(any_scale(random), random),
+        1 => server(random),
+        _ => recess(random),
     }
 }
 
 /// A plan without a fault made on purpose; its items as far as they are known.
 fn unfaulted(plan: Vec<u8>, items: &[Item], random: &mut Random) -> Case {
     let length = row_length(&plan, random);
-    case(plan, items, length, None, random)
+    case(plan, items, length, random)
 }
 
-fn case(
-    plan: Vec<u8>,
-    items: &[Item],
-    places: usize,
-    expected: Option<u32>,
-    random: &mut Random,
-) -> Case {
+/// A case of which no fault is known.
+fn case(plan: Vec<u8>, items: &[Item], places: usize, random: &mut Random) -> Case {
     Case {
         row: (0..places).map(|_| random.bits()).collect(),
         values: [0; 7].map(|_: u64| random.bits()),
         text: text::make(alphabet(&plan), items, random),
+        records: records(&plan),
         plan,
-        expected,
+        faults: vec![],
+        expected: None,
         items: items.to_vec(),
     }
 }
@@ -98,24 +95,44 @@ pub fn faulty(mut draft: Draft, faults: &[u32], random: &mut Random) -> Case {
     if short {
         draft.items = vec![Item::Empty];
     }
-    let mut made = short;
+    let mut made = vec![];
     for &fault in faults {
-        made |= fault_in_jobs::make(fault, &mut draft, random);
-        made |= fault_in_items::make(fault, &mut draft, random);
+        let in_jobs = fault_in_jobs::make(fault, &mut draft, random);
+        if in_jobs || fault_in_items::make(fault, &mut draft, random) {
+            made.push(fault);
+        }
     }
     let whole = draft.encode();
     let mut plan = whole.clone();
     for &fault in faults {
-        made |= fault_in_bytes::make(fault, &draft, &mut plan, random);
+        if fault_in_bytes::make(fault, &draft, &mut plan, random) {
+            made.push(fault);
+        }
     }
     let length = match draft.nodes as usize {
-        nodes if short && nodes > 0 => random.index(nodes),
+        nodes if short && nodes > 0 => {
+            made.push(SHORT_ROW);
+            random.index(nodes)
+        }
         _ => row_length(&plan, random),
     };
-    let expected = (made && faults.len() == 1).then(|| faults[0]);
     // Two faults in the bytes may make another pattern of them.
     let items = if plan == whole { &draft.items[..] } else { &[] };
-    case(plan, items, length, expected, random)
+    Case {
+        expected: expected(faults, &made),
+        faults: made,
+        ..case(plan, items, length, random)
+    }
+}
+
+/// The refusal that must be given: that of the one fault, or 21 before a fault that leaves the jobs' records as they are.
+fn expected(faults: &[u32], made: &[u32]) -> Option<u32> {
+    let later = |&fault: &u32| fault == ALL_STAND || comes_after(fault, ALL_STAND);
+    match *faults {
+        [fault] if made == [fault] => Some(fault),
+        _ if made.contains(&ALL_STAND) && faults.iter().all(later) => Some(ALL_STAND),
+        _ => None,
+    }
 }
 
 /// A length of the row around the nodes that the head names, or any.

@@ -5,7 +5,8 @@ use crate::case::Case;
 use crate::draft::{as_read, Item};
 use crate::hex::hex;
 use crate::layout::{alphabet, NODES};
-use crate::recess_law;
+use crate::refusals::{is_of_plan, SHORT_ROW};
+use crate::{recess_law, standing_law};
 use std::fmt::Write;
 use std::ops::Range;
 use std::panic::catch_unwind;
@@ -27,11 +28,12 @@ struct Outcomes {
     pattern_part: Range<usize>,
 }
 
-/// The answers that both give, by the plan's own pattern and by the text.
+/// The answers that both give, by the plan's own pattern and by the text, and the pattern part.
 #[derive(Debug)]
 pub struct Answers {
     pub own: Answer,
     pub typed: Answer,
+    pub pattern_part: Range<usize>,
 }
 
 /// The answers, or a report of the first difference or broken law.
@@ -48,6 +50,7 @@ pub fn compare(case: &Case) -> Result<Answers, String> {
         None => Ok(Answers {
             own: proved.own.answer,
             typed: proved.typed.answer,
+            pattern_part: proved.pattern_part,
         }),
         Some(fault) => Err(report(&fault, case, &proved, &independent)),
     }
@@ -165,7 +168,10 @@ fn broken_law(case: &Case, outcomes: &Outcomes) -> Option<String> {
 
 /// What is wrong with one outcome, under items that are none where they are not known.
 fn broken_by(case: &Case, items: &[Item], outcome: &Outcome) -> Option<String> {
-    broken_lending(case, outcome).or_else(|| recess_law::broken(&case.plan, items, &outcome.answer))
+    let Outcome { answer, row, .. } = outcome;
+    broken_lending(case, outcome)
+        .or_else(|| recess_law::broken(&case.plan, items, answer))
+        .or_else(|| standing_law::broken(&case.records, row, answer))
 }
 
 /// A refusal leaves all that is lent. A verdict counts the pairs of its row and leaves the later places.
@@ -192,7 +198,7 @@ fn broken_lending(case: &Case, outcome: &Outcome) -> Option<String> {
 /// The pattern part reaches to the plan's end if there is one, and is 0..0 if not. A refusal of the plan under its own pattern gives
 /// none unless it is about the row.
 fn broken_part(case: &Case, outcomes: &Outcomes) -> Option<String> {
-    let present = !matches!(outcomes.own.answer, Answer::Refused(refusal) if refusal != 17);
+    let present = !matches!(outcomes.own.answer, Answer::Refused(refusal) if refusal != SHORT_ROW);
     let part = &outcomes.pattern_part;
     let right = if present {
         !part.is_empty() && part.end == case.plan.len()
@@ -202,10 +208,9 @@ fn broken_part(case: &Case, outcomes: &Outcomes) -> Option<String> {
     (!right).then(|| format!("the pattern part is {part:?}"))
 }
 
-/// The plan's refusals, 1 to 15, come before those of the text. A text that spells the plan's own items changes nothing.
+/// The plan's refusals come before those of the text. A text that spells the plan's own items changes nothing.
 fn broken_by_text(case: &Case, own: &Outcome, typed: &Outcome) -> Option<String> {
-    let of_plan = |outcome: &Outcome| matches!(outcome.answer, Answer::Refused(1..=15));
-    if of_plan(own) || of_plan(typed) {
+    if is_of_plan(&own.answer) || is_of_plan(&typed.answer) {
         let differ = own.answer != typed.answer;
         return differ.then(|| "the text changes a refusal of the plan".to_string());
     }
@@ -266,7 +271,8 @@ fn describe(case: &Case) -> String {
 mod tests {
     use super::*;
     use crate::case;
-    use crate::layout::JOBS;
+    use crate::refusals::ORDER;
+    use crate::standing_law::tests::with_final_set;
 
     /// Each way in which a judge may be a little wrong on this outcome.
     fn altered(case: &Case, outcome: &Outcome) -> Vec<Outcome> {
@@ -320,44 +326,62 @@ mod tests {
         }
     }
 
-    /// The outcome with the other verdict, all else as it was; none if it is a refusal.
-    fn reversed(outcome: &Outcome) -> Option<Outcome> {
-        let answer = match outcome.answer {
-            Answer::Refused(_) => return None,
-            Answer::Verified(counts) => Answer::Inconclusive(counts),
-            Answer::Inconclusive(counts) => Answer::Verified(counts),
+    /// The outcomes with this verdict by the plan's own pattern or by the text, all else as it was.
+    fn with_verdict(right: &Outcomes, by_text: bool, answer: Answer) -> Outcomes {
+        let mut wrong = right.clone();
+        let outcome = match by_text {
+            false => &mut wrong.own,
+            true => &mut wrong.typed,
         };
-        Some(Outcome {
-            answer,
-            row: outcome.row.clone(),
-            values: told(&answer)?,
-        })
+        outcome.answer = answer;
+        outcome.values = told(&answer).unwrap_or(outcome.values);
+        wrong
     }
 
-    #[test]
-    fn the_other_verdict_on_a_plan_without_jobs_is_found_out() {
-        let cases = (0..3_000).map(|number| case::make(1, number));
+    /// The other verdict; none for a refusal.
+    fn reversed(answer: &Answer) -> Option<Answer> {
+        match *answer {
+            Answer::Refused(_) => None,
+            Answer::Verified(counts) => Some(Answer::Inconclusive(counts)),
+            Answer::Inconclusive(counts) => Some(Answer::Verified(counts)),
+        }
+    }
+
+    /// Alters the answers to some cases, if the alteration applies to their items and outcome: each time a law is broken.
+    fn all_found_out(altered: impl Fn(&Case, &[Item], &Outcome) -> Option<Answer>) {
         let mut tried = [0; 2];
-        for case in cases.filter(|case| JOBS.read(&case.plan) == 0) {
+        for case in (0..3_000).map(|number| case::make(1, number)) {
             let right = proved(&case);
-            let own = reversed(&right.own).filter(|_| !case.items.is_empty());
-            let typed = reversed(&right.typed).filter(|_| !case.text.items().is_empty());
-            let with_own = own.map(|own| Outcomes {
-                own,
-                ..right.clone()
-            });
-            let with_typed = typed.map(|typed| Outcomes {
-                typed,
-                ..right.clone()
-            });
-            for (wrong, tried) in [with_own, with_typed].iter().zip(&mut tried) {
-                if let Some(wrong) = wrong {
-                    assert!(broken_law(&case, wrong).is_some(), "{}", describe(&case));
-                    *tried += 1;
+            let own = altered(&case, &case.items, &right.own);
+            let typed = altered(&case, case.text.items(), &right.typed);
+            for (by_text, answer) in [(false, own), (true, typed)] {
+                if let Some(answer) = answer {
+                    let wrong = with_verdict(&right, by_text, answer);
+                    assert!(broken_law(&case, &wrong).is_some(), "{}", describe(&case));
+                    tried[usize::from(by_text)] += 1;
                 }
             }
         }
         assert!(tried.iter().all(|&count| count > 20), "{tried:?}");
+    }
+
+    #[test]
+    fn the_other_verdict_on_a_plan_without_jobs_is_found_out() {
+        all_found_out(|case, items, outcome| {
+            let applies = case.records.jobs.is_empty() && !items.is_empty();
+            reversed(&outcome.answer).filter(|_| applies)
+        });
+    }
+
+    #[test]
+    fn a_final_set_that_takes_in_standing_exits_is_found_out() {
+        all_found_out(|case, _, outcome| {
+            let jobs = case.records.jobs.iter();
+            let sets = jobs.map(|job| outcome.row.get(job.exit as usize).copied());
+            let all = sets.reduce(|common, set| Some(common? & set?))??;
+            let wrong = with_final_set(outcome.answer, all);
+            (wrong != outcome.answer).then_some(wrong)
+        });
     }
 
     /// What is said of a judge that gives this answer by a text.
@@ -373,10 +397,10 @@ mod tests {
             let case = case::make(1, number);
             let right = proved(&case);
             let due = case.text.expected();
-            for refusal in 1..=20 {
-                let of_plan = matches!(right.own.answer, Answer::Refused(1..=15));
-                let wrong = right.typed.answer != Answer::Refused(refusal);
-                if wrong && (of_plan || refusal < 16 || due.is_some()) {
+            for refusal in ORDER {
+                let answer = Answer::Refused(refusal);
+                let of_plan = is_of_plan(&right.own.answer) || is_of_plan(&answer);
+                if answer != right.typed.answer && (of_plan || due.is_some()) {
                     assert!(said(&right, &case, refusal).is_some(), "plan {number}");
                 }
             }

@@ -4,18 +4,15 @@ use crate::case::Case;
 use crate::compare::Answers;
 use crate::layout::{kind, CHANNELS, COUNTS, JOBS, NODES};
 use crate::recess;
+use crate::refusals::{self, is_of_plan, MANY_STATES, OF_TEXT, ORDER};
+use crate::standing_coverage::Standing;
 use crate::text::MOST_BYTES;
 use std::fmt;
 use traceflow::{Answer, Counts};
 
-/// The last refusal of a plan under its own pattern, and under a text; they are numbered from 1.
-const REFUSALS: u32 = 17;
-const REFUSALS_BY_TEXT: u32 = 20;
-/// The refusals that are about a text.
-const REFUSALS_OF_TEXT: [u32; 4] = [16, 18, 19, 20];
 const KINDS: [&str; 2] = ["every", "none"];
 const VERDICTS: [&str; 2] = ["verified", "inconclusive"];
-const MANY_STATES: u32 = 60;
+const NEAR_MOST_STATES: u32 = 60;
 const MANY_MEETINGS: u32 = 10_000;
 /// Of 256 nodes and 64 states.
 const ALL_PAIRS: u32 = 16_384;
@@ -42,12 +39,14 @@ pub struct Coverage {
     typed: Tally,
     texts: Texts,
     recess: Recess,
+    standing: Standing,
 }
 
 /// How often each answer was given.
 #[derive(Default)]
-struct Tally {
-    refused: [u64; REFUSALS_BY_TEXT as usize + 1],
+pub struct Tally {
+    /// By number; they are numbered from 1 without gaps.
+    refused: [u64; ORDER.len() + 1],
     /// By kind, then by verdict.
     verdicts: [[u64; 2]; 2],
 }
@@ -84,7 +83,7 @@ struct Texts {
 }
 
 impl Tally {
-    fn add(&mut self, plan: &[u8], answer: &Answer) {
+    pub fn add(&mut self, plan: &[u8], answer: &Answer) {
         match answer {
             Answer::Refused(refusal) => {
                 if let Some(count) = self.refused.get_mut(*refusal as usize) {
@@ -96,8 +95,13 @@ impl Tally {
         }
     }
 
+    /// The refusals that are about a text, then the verdicts.
+    pub fn asked_of_text(&self, by: &str) -> Vec<(String, u64)> {
+        self.asked(OF_TEXT.into_iter().chain([MANY_STATES]), by)
+    }
+
     /// These refusals, then the verdicts.
-    fn asked(&self, refusals: impl IntoIterator<Item = u32>, by: &str) -> Vec<(String, u64)> {
+    pub fn asked(&self, refusals: impl IntoIterator<Item = u32>, by: &str) -> Vec<(String, u64)> {
         let refused = |refusal: u32| {
             let count = self.refused[refusal as usize];
             (format!("{by}refused {refusal}"), count)
@@ -130,7 +134,7 @@ impl Recess {
             ("no jobs: judged, with channels", self.channels),
         ];
         asked.extend(others.map(|(name, count)| (name.to_string(), count)));
-        asked.extend(self.typed.asked(REFUSALS_OF_TEXT, "no jobs, text: "));
+        asked.extend(self.typed.asked_of_text("no jobs, text: "));
         asked
     }
 }
@@ -146,10 +150,10 @@ impl Texts {
         self.broken += u64::from(refused(18) && !long);
         self.left_out += u64::from(refused(20) && text.strange_left_out);
         self.longest += u64::from(judged && text.bytes.len() == MOST_BYTES);
-        let plan_refused = matches!(answers.own, Answer::Refused(1..=15));
+        let plan_refused = is_of_plan(&answers.own);
         self.faulty_twice += u64::from(plan_refused && !long && text.expected().is_some());
-        self.short_row += u64::from(refused(16) && case.row.len() < nodes);
-        self.own_refused += u64::from(judged && answers.own == Answer::Refused(16));
+        self.short_row += u64::from(refused(MANY_STATES) && case.row.len() < nodes);
+        self.own_refused += u64::from(judged && answers.own == Answer::Refused(MANY_STATES));
         self.own_spelled += u64::from(judged && text.own);
     }
 
@@ -186,10 +190,11 @@ impl Coverage {
         }
         self.typed.add(&case.plan, &answers.typed);
         self.texts.add(case, answers);
+        self.standing.add(case, answers);
     }
 
     fn add_verdict(&mut self, plan: &[u8], counts: &Counts) {
-        self.many_states += u64::from(counts.states >= MANY_STATES);
+        self.many_states += u64::from(counts.states >= NEAR_MOST_STATES);
         self.most_states = self.most_states.max(counts.states);
         self.many_meetings += u64::from(counts.meetings > MANY_MEETINGS);
         self.most_meetings = self.most_meetings.max(counts.meetings);
@@ -205,9 +210,12 @@ impl Coverage {
 
     /// How often each thing asked for occurred.
     fn asked(&self) -> Vec<(String, u64)> {
-        let mut asked = self.own.asked(1..=REFUSALS, "");
+        let mut asked = self.own.asked(refusals::own(), "");
         let others = [
-            (format!("states {MANY_STATES} or more"), self.many_states),
+            (
+                format!("states {NEAR_MOST_STATES} or more"),
+                self.many_states,
+            ),
             (format!("meetings over {MANY_MEETINGS}"), self.many_meetings),
             (format!("pairs {ALL_PAIRS}"), self.all_pairs),
             ("every state at every node".to_string(), self.filled),
@@ -218,9 +226,10 @@ impl Coverage {
             ("refused 5, nodes 0 with jobs".to_string(), self.no_nodes),
         ];
         asked.extend(others);
-        asked.extend(self.typed.asked(1..=REFUSALS_BY_TEXT, "text: "));
+        asked.extend(self.typed.asked(ORDER, "text: "));
         asked.extend(self.texts.asked());
         asked.extend(self.recess.asked());
+        asked.extend(self.standing.asked());
         asked
     }
 

@@ -1,5 +1,8 @@
 //! A plan to be encoded: its parts as lists, and the bit writer that packs them.
 
+use crate::layout::{CHANNEL, JOB, LINK, STEP};
+use std::ops::Range;
+
 /// A plan before it is packed. The counts of the head are the lengths of the lists.
 #[derive(Clone, Debug)]
 pub struct Draft {
@@ -17,15 +20,39 @@ pub struct Draft {
     pub items: Vec<Item>,
 }
 
-#[derive(Clone, Debug)]
+#[derive(Clone, Debug, PartialEq, Eq)]
 pub struct Job {
     pub size: u32,
     pub entry: u32,
+    /// That of a standing job repeats its entry.
     pub exit: u32,
+    pub standing: bool,
+}
+
+impl Job {
+    /// Makes it a standing job.
+    pub fn stand(&mut self) {
+        self.standing = true;
+        self.exit = self.entry;
+    }
+
+    /// Whether its entry and its exit are among these nodes.
+    pub fn is_within(&self, span: &Range<u32>) -> bool {
+        span.contains(&self.entry) && span.contains(&self.exit)
+    }
+}
+
+/// The nodes of each job, by the sizes.
+pub fn spans(jobs: &[Job]) -> Vec<Range<u32>> {
+    let spans = jobs.iter().scan(0, |start, job| {
+        *start += job.size;
+        Some(*start - job.size..*start)
+    });
+    spans.collect()
 }
 
 /// A local step, a call or an accept.
-#[derive(Clone, Debug)]
+#[derive(Clone, Debug, PartialEq, Eq)]
 pub struct Arc {
     pub from: u32,
     pub to: u32,
@@ -63,16 +90,15 @@ impl Draft {
         self.write_head(&mut bits);
         bits.events(self.alphabet);
         for job in &self.jobs {
-            bits.field(job.size, 9);
-            bits.field(job.entry, 8);
-            bits.field(job.exit, 8);
+            let fields = [job.size, job.entry, job.exit, job.standing.into()];
+            bits.record(fields, JOB);
         }
-        bits.arcs(&self.steps, 5);
+        bits.arcs(&self.steps, STEP);
         for &event in &self.channels {
-            bits.field(event, 5);
+            bits.record([event], CHANNEL);
         }
-        bits.arcs(&self.calls, 6);
-        bits.arcs(&self.accepts, 6);
+        bits.arcs(&self.calls, LINK);
+        bits.arcs(&self.accepts, LINK);
         bits.fill();
         for item in &self.items {
             bits.item(item);
@@ -112,9 +138,15 @@ impl Bits {
         self.taken = (self.taken + 1) % 8;
     }
 
-    fn field(&mut self, value: u32, width: u32) {
+    fn field(&mut self, value: u32, width: usize) {
         for place in (0..width).rev() {
             self.bit(value >> place & 1 == 1);
+        }
+    }
+
+    fn record<const FIELDS: usize>(&mut self, values: [u32; FIELDS], widths: [usize; FIELDS]) {
+        for (value, width) in values.into_iter().zip(widths) {
+            self.field(value, width);
         }
     }
 
@@ -125,11 +157,9 @@ impl Bits {
         }
     }
 
-    fn arcs(&mut self, arcs: &[Arc], label_width: u32) {
+    fn arcs(&mut self, arcs: &[Arc], widths: [usize; 3]) {
         for arc in arcs {
-            self.field(arc.from, 8);
-            self.field(arc.to, 8);
-            self.field(arc.label, label_width);
+            self.record([arc.from, arc.to, arc.label], widths);
         }
     }
 
@@ -152,16 +182,18 @@ impl Bits {
     }
 }
 
+/// Plan P, as the rules print it.
+pub const PRINTED: [u8; 22] = [
+    0x08, 0x08, 0x02, 0x00, 0x00, 0x00, 0x06, 0x00, 0x00, 0x00, 0x00, 0x08, 0x00, 0x04, 0x00, 0x02,
+    0x10, 0x30, 0x00, 0x00, 0x00, 0x00,
+];
+
 #[cfg(test)]
 mod tests {
     use super::*;
 
     #[test]
     fn the_printed_plan() {
-        let printed = [
-            0x08, 0x08, 0x02, 0x00, 0x00, 0x00, 0x06, 0x00, 0x00, 0x00, 0x00, 0x08, 0x00, 0x04,
-            0x00, 0x04, 0x20, 0x30, 0x00, 0x00, 0x00, 0x00,
-        ];
         let draft = Draft {
             nodes: 2,
             kind: 0,
@@ -170,6 +202,7 @@ mod tests {
                 size: 2,
                 entry: 0,
                 exit: 1,
+                standing: false,
             }],
             steps: vec![Arc {
                 from: 0,
@@ -181,6 +214,6 @@ mod tests {
             accepts: vec![],
             items: vec![Item::Events(1 << 1)],
         };
-        assert_eq!(draft.encode(), printed);
+        assert_eq!(draft.encode(), PRINTED);
     }
 }

@@ -4,7 +4,9 @@
 //! Each function of a fault says whether the plan allowed it.
 
 use crate::draft::Draft;
-use crate::layout::{item_bits, pattern_start, section_bits, set_field, COUNTS};
+use crate::layout::{
+    item_bits, pattern_start, section_bits, set_field, standing_bit, COUNTS, JOBS,
+};
 use crate::random::Random;
 
 /// Makes the fault of this refusal, if it is one of these.
@@ -89,13 +91,13 @@ fn lengthen(plan: &mut Vec<u8>, random: &mut Random) {
 }
 
 /// Damage that aims at no refusal: flipped bits, a cut, more bytes, another
-/// count in the head, or noise from some byte on.
+/// count in the head, noise from some byte on, or jobs that stand or no longer do.
 pub fn mangle(plan: &mut Vec<u8>, random: &mut Random) {
-    match random.weighted(&[6, 2, 1, 3, 1]) {
+    match random.weighted(&[6, 2, 1, 3, 1, 3]) {
         0 => {
             for _ in 0..random.pick(&[1, 1, 1, 2, 3]) {
                 let bit = random.index(plan.len() * 8);
-                plan[bit / 8] ^= 0x80 >> (bit % 8);
+                flip(plan, bit);
             }
         }
         1 => plan.truncate(random.index(plan.len() + 1)),
@@ -110,12 +112,22 @@ pub fn mangle(plan: &mut Vec<u8>, random: &mut Random) {
             };
             count.write(plan, value);
         }
-        _ => {
+        4 => {
             let from = random.index(plan.len());
             let noise = random.bytes(plan.len() - from);
             plan[from..].copy_from_slice(&noise);
         }
+        _ => {
+            let jobs = JOBS.read(plan) as usize;
+            for _ in 0..random.pick(&[1, 1, 2]).min(jobs) {
+                flip(plan, standing_bit(random.index(jobs)));
+            }
+        }
     }
+}
+
+fn flip(plan: &mut [u8], bit: usize) {
+    plan[bit / 8] ^= 0x80 >> (bit % 8);
 }
 
 /// Plain noise, one in two times with a head of small counts in their ranges.

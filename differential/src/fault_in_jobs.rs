@@ -1,10 +1,11 @@
-//! Faults made on purpose in the jobs, steps, calls and accepts: refusals 5 to 9.
+//! Faults made on purpose in the jobs, steps, calls and accepts: refusals 5, 6, 21 and 7 to 9.
 //!
 //! Each function says whether the plan allowed its fault.
 
-use crate::draft::{Arc, Draft};
+use crate::draft::{spans, Arc, Draft, Job};
 use crate::layout::{MOST_CHANNELS, MOST_NODES};
 use crate::random::Random;
+use crate::refusals::ALL_STAND;
 use std::ops::Range;
 
 /// Events are below this.
@@ -15,20 +16,12 @@ pub fn make(refusal: u32, draft: &mut Draft, random: &mut Random) -> bool {
     match refusal {
         5 => wrong_sizes(draft, random),
         6 => strange_entry_or_exit(draft, random),
+        ALL_STAND => all_stand(draft, random),
         7 => strange_end(draft, random),
         8 => leave_exit(draft, random),
         9 => strange_channel(draft, random),
         _ => false,
     }
-}
-
-/// The nodes of each job, by the sizes.
-fn spans(draft: &Draft) -> Vec<Range<u32>> {
-    let ends = draft.jobs.iter().scan(0, |start, job| {
-        *start += job.size;
-        Some(*start - job.size..*start)
-    });
-    ends.collect()
 }
 
 /// A node number that a job does not have, often one just beside its nodes.
@@ -75,22 +68,51 @@ fn wrong_sizes(draft: &mut Draft, random: &mut Random) -> bool {
     true
 }
 
+/// An entry, an exit or both that the job does not have, or an exit of a standing job that is not its entry.
 fn strange_entry_or_exit(draft: &mut Draft, random: &mut Random) -> bool {
     if draft.jobs.is_empty() {
         return false;
     }
     let index = random.index(draft.jobs.len());
-    let Some(strange) = outside(&spans(draft)[index], random) else {
+    let span = &spans(&draft.jobs)[index];
+    let job = &mut draft.jobs[index];
+    if random.one_in(2) && let_exit_differ(job, span, random) {
+        return true;
+    }
+    let Some(strange) = outside(span, random) else {
         return false;
     };
-    let job = &mut draft.jobs[index];
-    let end = if random.one_in(2) {
-        &mut job.entry
-    } else {
-        &mut job.exit
-    };
-    *end = strange;
+    let ends = random.pick(&[[true, false], [false, true], [true, true]]);
+    for (end, changes) in [&mut job.entry, &mut job.exit].into_iter().zip(ends) {
+        if changes {
+            *end = strange;
+        }
+    }
     true
+}
+
+/// Makes the job stand with an exit that is another of its nodes than the entry, if there is another.
+fn let_exit_differ(job: &mut Job, span: &Range<u32>, random: &mut Random) -> bool {
+    let others: Vec<u32> = span.clone().filter(|&node| node != job.entry).collect();
+    if others.is_empty() {
+        return false;
+    }
+    job.standing = true;
+    if job.exit == job.entry {
+        job.exit = random.pick(&others);
+    }
+    true
+}
+
+/// Every job stands: its exit is made its entry, or the reverse.
+fn all_stand(draft: &mut Draft, random: &mut Random) -> bool {
+    for job in &mut draft.jobs {
+        if random.one_in(2) {
+            job.entry = job.exit;
+        }
+        job.stand();
+    }
+    !draft.jobs.is_empty()
 }
 
 /// Any local step, call or accept; a new step if there is none.
@@ -129,7 +151,7 @@ fn strange_end(draft: &mut Draft, random: &mut Random) -> bool {
     if draft.jobs.is_empty() {
         return strange_arc(draft, random);
     }
-    let (spans, nodes) = (spans(draft), draft.nodes);
+    let (spans, nodes) = (spans(&draft.jobs), draft.nodes);
     let arc = any_arc(draft, random);
     if nodes < MOST_NODES && random.one_in(4) {
         arc.from = random.within(nodes..=MOST_NODES - 1);
@@ -149,18 +171,19 @@ fn strange_end(draft: &mut Draft, random: &mut Random) -> bool {
     true
 }
 
+/// A step, call or accept from the exit of a job that does not stand: its own, or it comes to one that has an exit.
 fn leave_exit(draft: &mut Draft, random: &mut Random) -> bool {
-    if draft.jobs.is_empty() {
+    let (spans, jobs) = (spans(&draft.jobs), draft.jobs.clone());
+    let ending: Vec<&Job> = jobs.iter().filter(|job| !job.standing).collect();
+    if ending.is_empty() {
         return false;
     }
-    let (spans, jobs) = (spans(draft), draft.jobs.clone());
     let arc = any_arc(draft, random);
-    let job = spans.iter().position(|span| span.contains(&arc.from));
-    let Some(exit) = job.map(|job| jobs[job].exit) else {
-        return false;
-    };
+    let place = spans.iter().position(|span| span.contains(&arc.from));
+    let own = place.map(|job| &jobs[job]).filter(|job| !job.standing);
+    let exit = own.unwrap_or_else(|| random.pick(&ending)).exit;
     arc.from = exit;
-    if random.one_in(3) {
+    if own.is_none() || random.one_in(3) {
         arc.to = exit;
     }
     true

@@ -2,6 +2,7 @@
 
 use crate::draft::{Arc, Draft, Item, Job};
 use crate::random::Random;
+use crate::standing::stand_some;
 
 const NODES: u32 = 256;
 
@@ -10,11 +11,12 @@ pub fn filled(random: &mut Random) -> Draft {
     let event = random.within(1..=31);
     let count = random.pick(&[1, 2, 4, 8, 16]);
     let size = NODES / count;
-    let jobs: Vec<Job> = (0..count)
+    let mut jobs: Vec<Job> = (0..count)
         .map(|job| Job {
             size,
             entry: job * size,
             exit: (job + 1) * size - 1,
+            standing: false,
         })
         .collect();
     let quiet = jobs.iter().flat_map(|job| job.entry..job.exit);
@@ -26,6 +28,7 @@ pub fn filled(random: &mut Random) -> Draft {
             .map(|job| step(job.entry, job.entry, event)),
     );
     random.shuffle(&mut steps);
+    stand_some(&mut jobs, random);
     Draft {
         nodes: NODES,
         kind: random.within(0..=1),

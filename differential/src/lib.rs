@@ -1,5 +1,6 @@
 //! The differential test of the two implementations of the verifier.
 
+pub mod builder;
 pub mod case;
 pub mod compare;
 pub mod coverage;
@@ -15,7 +16,11 @@ pub mod program;
 pub mod random;
 mod recess;
 mod recess_law;
+mod refusals;
 pub mod runs;
 mod sound;
 mod spelling;
+mod standing;
+mod standing_coverage;
+mod standing_law;
 mod text;

@@ -7,7 +7,7 @@ use crate::pattern::pattern;
 use crate::random::Random;
 use crate::sound::{alphabet, any_event};
 
-/// The refusals that a plan without jobs can be given under its own pattern: 6 is about a job, 7 comes before 8 and 9, and 17 is
+/// The refusals that a plan without jobs can be given under its own pattern: 6 and 21 are about jobs, 7 comes before 8 and 9, and 17 is
 /// about nodes.
 pub const REFUSALS: [u32; 13] = [1, 2, 3, 4, 5, 7, 10, 11, 12, 13, 14, 15, 16];
 
@@ -55,7 +55,8 @@ pub fn known() -> [Draft; 4] {
 #[cfg(test)]
 mod tests {
     use super::*;
-    use crate::case::{faulty, SHORT_ROW};
+    use crate::case::faulty;
+    use crate::refusals;
     use reference::{judge, Answer, Counts};
 
     #[test]
@@ -95,7 +96,7 @@ mod tests {
     #[test]
     fn a_fault_made_on_purpose_is_answered_by_its_refusal() {
         let random = &mut Random::new(7);
-        for fault in 1..=SHORT_ROW {
+        for fault in refusals::own() {
             let mut made = 0;
             for number in 0..200 {
                 let case = faulty(recess(random), &[fault], random);

@@ -1,9 +1,9 @@
 //! Laws about plans without jobs, or without nodes, that need no other implementation.
 
-use crate::case::SHORT_ROW;
 use crate::draft::{as_read, Item};
 use crate::layout::{kind, COUNTS, JOBS};
 use crate::recess::REFUSALS;
+use crate::refusals::OF_TEXT;
 use crate::runs::expression::has_empty_string;
 use traceflow::{Answer, Counts};
 
@@ -16,7 +16,7 @@ pub fn broken(plan: &[u8], items: &[Item], answer: &Answer) -> Option<String> {
     }
     match (JOBS.read(plan), answer) {
         (0, Answer::Refused(refusal)) => {
-            let never = *refusal <= SHORT_ROW && !REFUSALS.contains(refusal);
+            let never = !OF_TEXT.contains(refusal) && !REFUSALS.contains(refusal);
             never.then(|| format!("refusal {refusal} never applies to a plan without jobs"))
         }
         (0, Answer::Verified(counts)) => broken_verdict(plan, items, true, counts),
@@ -109,13 +109,17 @@ mod tests {
             let answer = Answer::Refused(*refusal);
             broken(&plan, &draft.items, &answer).is_some()
         };
-        (1..=20).filter(found).collect()
+        (1..=21).filter(found).collect()
     }
 
     #[test]
     fn a_refusal_that_comes_too_late_is_found_out() {
-        let (size, entry, exit) = (1, 0, 0);
-        let job = Job { size, entry, exit };
+        let job = Job {
+            size: 1,
+            entry: 0,
+            exit: 0,
+            standing: false,
+        };
         let (from, to, label) = (0, 0, 0);
         let arc = Arc { from, to, label };
         let empty = recess(&mut Random::new(7));
@@ -124,8 +128,8 @@ mod tests {
             change(&mut draft);
             found_out(&draft)
         };
-        let after = |refusal: u32| Vec::from_iter(refusal + 1..=20);
-        assert_eq!(found_out(&empty), [6, 8, 9, 17]);
+        let after = |refusal: u32| Vec::from_iter(refusal + 1..=21);
+        assert_eq!(found_out(&empty), [6, 8, 9, 17, 21]);
         assert_eq!(found_with(&|draft| draft.nodes = 1), after(5));
         assert_eq!(found_with(&|draft| draft.jobs.push(job.clone())), after(5));
         assert_eq!(found_with(&|draft| draft.steps.push(arc.clone())), after(7));

@@ -4,6 +4,7 @@ use crate::draft::{Arc, Draft, Job};
 use crate::layout::COUNTS;
 use crate::pattern::pattern;
 use crate::random::Random;
+use crate::standing::stand_some;
 
 /// How large the counts of a plan may be.
 #[derive(Clone, Copy)]
@@ -62,10 +63,11 @@ fn counts(scale: Scale, random: &mut Random) -> [usize; 7] {
     ]
 }
 
-/// A plan with jobs that none of refusals 1 to 15 applies to.
+/// A plan with jobs, of which some may stand, that none of refusals 1 to 15 and 21 applies to.
 pub fn sound(scale: Scale, random: &mut Random) -> Draft {
     let [jobs, nodes, steps, calls, accepts, channels, items] = counts(scale, random);
-    let jobs = split(jobs, nodes as u32, random);
+    let mut jobs = split(jobs, nodes as u32, random);
+    stand_some(&mut jobs, random);
     let mut ways = ways(&jobs, steps + calls + accepts, random);
     let alphabet = alphabet(random);
     let unwatched = random.pick(&[1, 2, 4, 8]);
@@ -97,6 +99,7 @@ fn split(jobs: usize, nodes: u32, random: &mut Random) -> Vec<Job> {
             size: ends[1] - ends[0],
             entry: random.within(ends[0]..=ends[1] - 1),
             exit: random.within(ends[0]..=ends[1] - 1),
+            standing: false,
         })
         .collect()
 }
@@ -113,7 +116,7 @@ fn ways(jobs: &[Job], count: usize, random: &mut Random) -> Vec<(u32, u32)> {
         free.extend(
             nodes
                 .iter()
-                .filter(|&&node| node != job.exit)
+                .filter(|&&node| job.standing || node != job.exit)
                 .map(|&node| (node, start, job.size)),
         );
         start += job.size;
@@ -127,9 +130,9 @@ fn ways(jobs: &[Job], count: usize, random: &mut Random) -> Vec<(u32, u32)> {
     ways
 }
 
-/// A path from the entry to the exit through some nodes of the job.
+/// A path from the entry to the exit through some nodes of the job; in a standing job, round to its entry again.
 fn path(job: &Job, nodes: &[u32], random: &mut Random) -> Vec<(u32, u32)> {
-    if job.entry == job.exit {
+    if job.entry == job.exit && !job.standing {
         return Vec::new();
     }
     let kept = random.within(0..=4);
@@ -184,5 +187,30 @@ pub fn any_event(alphabet: u32, unwatched: u32, random: &mut Random) -> u32 {
         0
     } else {
         random.within(0..=31)
+    }
+}
+
+#[cfg(test)]
+mod tests {
+    use super::*;
+    use reference::{judge, Answer};
+
+    #[test]
+    fn no_refusal_of_the_plan_applies_and_a_good_share_has_standing_jobs() {
+        let mut standing = 0;
+        for number in 0..1_000 {
+            let random = &mut Random::for_plan(7, number);
+            let draft = sound(any_scale(random), random);
+            let answer = judge(&draft.encode(), &mut [0; 256]);
+            assert!(
+                matches!(
+                    answer,
+                    Answer::Refused(16) | Answer::Verified(_) | Answer::Inconclusive(_)
+                ),
+                "plan {number}: {answer:?}"
+            );
+            standing += usize::from(draft.jobs.iter().any(|job| job.standing));
+        }
+        assert!(standing > 250, "{standing}");
     }
 }

@@ -30,7 +30,7 @@ impl Text {
         }
     }
 
-    /// The refusal that it must give to a plan that none of 1 to 15 applies to, where its making tells.
+    /// The refusal that it must give to a plan that none of 1 to 15 and 21 applies to, where its making tells.
     pub fn expected(&self) -> Option<u32> {
         match self.reading {
             Some(Err(refusal)) => Some(refusal),

@@ -2,8 +2,8 @@
 //! states, of which events 1 move 60 round; two events 2 come before.
 
 use super::{sized, Family};
-use crate::builder::Builder;
 use crate::patterns::{cycles, only};
+use differential::builder::Builder;
 use differential::draft::Draft;
 
 const QUIET: u32 = 0;

@@ -1,7 +1,7 @@
 //! Jobs in a chain, in a ring, around one accepter, all with all, and looping side by side.
 
-use crate::builder::Builder;
 use crate::patterns::{only, sequence, star, then};
+use differential::builder::Builder;
 use differential::draft::{Draft, Item};
 
 /// One job of so many nodes in a row, an even number, with events 1 and 2 in turn.

@@ -1,8 +1,8 @@
 //! The largest legal plans: 256 nodes in 16 jobs, 256 steps, 128 calls, 128 accepts, 64 items and 64 states.
 
 use super::{member, Family};
-use crate::builder::Builder;
 use crate::patterns::{cycles, padded};
+use differential::builder::Builder;
 use differential::draft::Draft;
 
 const ALL_EVENTS: u32 = !1;

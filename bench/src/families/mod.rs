@@ -3,6 +3,7 @@
 mod handed;
 mod jobs;
 mod largest;
+mod standing;
 mod tiny;
 mod typed;
 
@@ -37,6 +38,7 @@ pub fn all() -> Vec<Family> {
         largest::family(),
     ];
     families.extend(handed::families());
+    families.extend(standing::families());
     families
 }
 

@@ -1,8 +1,8 @@
 //! Small plans, the common case, and plans that are turned down.
 
 use super::{member, Family};
-use crate::builder::Builder;
 use crate::patterns::{looking_back, only, sequence};
+use differential::builder::Builder;
 use differential::draft::Draft;
 
 pub fn family() -> Family {
@@ -13,6 +13,7 @@ pub fn family() -> Family {
         grows: None,
         members: vec![
             short,
+            member("refused 21", &all_stand()),
             member("refused 8", &one_step(1, 0)),
             member("refused 16", &one_step_under_many_states()),
             member("no jobs", &no_jobs()),
@@ -32,6 +33,14 @@ fn one_step(from: u32, to: u32) -> Draft {
     let mut plan = Builder::new(only(1), sequence(&[only(1)]));
     plan.job(2, 0, 1);
     plan.step(from, to, 1);
+    plan.draft()
+}
+
+/// One job that stands, and no other.
+fn all_stand() -> Draft {
+    let mut plan = Builder::new(only(1), sequence(&[only(1)]));
+    let first = plan.standing(2);
+    plan.step(first, first + 1, 1);
     plan.draft()
 }
 

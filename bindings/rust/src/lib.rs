@@ -11,7 +11,7 @@ pub struct Counts {
     pub ordering: u32,
     pub pairs: u32,
     pub fill: u32,
-    /// The states that all exits hold, state 0 where there are no jobs; state s has weight 2^s.
+    /// What the exits of jobs that do not stand have in common, state 0 where there are no jobs; state s has weight 2^s.
     pub final_set: u64,
 }
 
@@ -103,7 +103,7 @@ impl Answer {
     }
 }
 
-/// Where the pattern's part of a plan stands in it; `0..0` where one of the refusals 1 to 16 applies to it under its own pattern.
+/// Where the pattern's part of a plan is in it; `0..0` where one of the refusals 1 to 16 or 21 applies to it under its own pattern.
 pub fn pattern_part(plan: &[u8]) -> Range<usize> {
     let mut place = [0; 2];
     // SAFETY: as in `judge_into`.

@@ -1,12 +1,13 @@
 //! The inputs on which the program is tried.
 
-use crate::case::{self, SHORT_ROW};
+use crate::case;
+use crate::draft::{Draft, PRINTED};
 use crate::program::largest;
 use crate::program::line::{answer, answer_by, name, READ};
 use crate::program::writing::Writing;
 use crate::random::Random;
-use crate::recess::{known, recess};
 use crate::text::MOST_BYTES;
+use crate::{recess, refusals, standing};
 use reference::Answer;
 use std::collections::BTreeMap;
 
@@ -18,13 +19,7 @@ pub struct Input {
     pub writing: Writing,
 }
 
-/// The plan that the rules print.
-pub const PRINTED: [u8; 22] = [
-    0x08, 0x08, 0x02, 0x00, 0x00, 0x00, 0x06, 0x00, 0x00, 0x00, 0x00, 0x08, 0x00, 0x04, 0x00, 0x04,
-    0x20, 0x30, 0x00, 0x00, 0x00, 0x00,
-];
-
-/// Generated plans for each of refusals 1 to 16, and for each of the two verdicts.
+/// Generated plans for each refusal, and for each of the two verdicts.
 const REFUSED: usize = 15;
 const JUDGED: usize = 60;
 /// The same with a text, for each answer.
@@ -33,10 +28,10 @@ const TYPED: usize = 4;
 const IN_PIECES: usize = 4;
 /// Plans of the seed that are looked through for them.
 const LOOKED_THROUGH: u64 = 3_000;
-/// Plans without jobs, for each answer, with a text and without.
-const RECESS: usize = 4;
+/// Plans without jobs, and plans with a memory server, for each answer, with a text and without.
+const OF_SORT: usize = 4;
 /// Such plans that are drawn to find them, each refusal aimed at in turn.
-const RECESS_DRAWN: u32 = 1_000;
+const OF_SORT_DRAWN: usize = 1_000;
 /// The largest plans, for each verdict.
 const LARGEST: usize = 3;
 /// Lengths around that which the program reads, one above that of a pipe too.
@@ -59,8 +54,12 @@ pub fn all(seed: u64) -> Vec<Input> {
     inputs.extend(long(&all_sets, random));
     inputs.extend(printed_with_texts());
     inputs.extend(generated_with_texts(seed));
-    inputs.extend(known_without_jobs());
-    inputs.extend(generated_without_jobs(random));
+    let without_jobs = "without jobs";
+    inputs.extend(known(without_jobs, &recess::known(), &TEXTS_WITHOUT_JOBS));
+    inputs.extend(generated_of_sort(without_jobs, recess::recess, random));
+    let with_server = "with a server";
+    inputs.extend(known(with_server, &standing::known(), &TEXTS_WITH_SERVER));
+    inputs.extend(generated_of_sort(with_server, standing::server, random));
     inputs
 }
 
@@ -229,33 +228,39 @@ fn generated_with_texts(seed: u64) -> Vec<Input> {
 
 /// Texts for the plans without jobs and with known verdicts, whose alphabet is empty or {a}.
 const TEXTS_WITHOUT_JOBS: [&str; 5] = ["0", "a", "a*", "[^]", "[]|0"];
+/// Texts for the plans with a server and with known answers, whose alphabet is {a,b}.
+const TEXTS_WITH_SERVER: [&str; 5] = ["a", "a;b", "a;(b|0)", "b", "[^]*"];
 
-/// The plans without jobs and with known verdicts, in all ways and with short texts.
-fn known_without_jobs() -> Vec<Input> {
-    let name = "a known plan without jobs";
+/// The plans of one sort with known answers, in all ways and with short texts.
+fn known(sort: &str, drafts: &[Draft], texts: &[&str]) -> Vec<Input> {
+    let name = &format!("a known plan {sort}");
     let mut inputs = Vec::new();
-    for plan in known().map(|draft| draft.encode()) {
+    for plan in drafts.iter().map(Draft::encode) {
         inputs.extend(Input::in_all_ways(name, &plan));
-        let typed = |text: &str| Input::typed(name, &plan, text.as_bytes());
-        inputs.extend(TEXTS_WITHOUT_JOBS.map(typed));
+        let typed = |text: &&str| Input::typed(name, &plan, text.as_bytes());
+        inputs.extend(texts.iter().map(typed));
     }
     inputs
 }
 
-/// Generated plans without jobs, with a fault or without, some of each answer under their own patterns and some under their texts.
-fn generated_without_jobs(random: &mut Random) -> Vec<Input> {
+/// Generated plans of one sort, with a fault or without, some of each answer under their own patterns and some under their texts.
+fn generated_of_sort(
+    sort: &str,
+    drawn: fn(&mut Random) -> Draft,
+    random: &mut Random,
+) -> Vec<Input> {
     let mut inputs = Vec::new();
     let (mut kept, mut typed) = (Kept::default(), Kept::default());
-    for number in 0..RECESS_DRAWN {
-        let fault = 1 + number % SHORT_ROW;
-        let case = case::faulty(recess(random), &[fault], random);
+    let faults = refusals::own().into_iter().cycle();
+    for (number, fault) in faults.take(OF_SORT_DRAWN).enumerate() {
+        let case = case::faulty(drawn(random), &[fault], random);
         let (plan, text) = (&case.plan, &case.text.bytes);
-        let name = format!("plan {number} without jobs");
-        if kept.one_more(&answer(plan), RECESS).is_some() {
+        let name = format!("plan {number} {sort}");
+        if kept.one_more(&answer(plan), OF_SORT).is_some() {
             inputs.push(Input::new(&name, plan, Writing::Whole));
         }
         let answer = answer_by(Some(text), plan);
-        if !text.contains(&0) && typed.one_more(&answer, RECESS).is_some() {
+        if !text.contains(&0) && typed.one_more(&answer, OF_SORT).is_some() {
             inputs.push(Input::typed(&name, plan, text));
         }
     }

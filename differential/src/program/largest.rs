@@ -9,7 +9,7 @@ use crate::sound::{sound, Scale};
 use reference::Answer;
 
 /// The length of the largest plans that are judged: 32 of the items are sets.
-pub const JUDGED: usize = 1_625;
+pub const JUDGED: usize = 1_627;
 
 /// Plans that are drawn to find some of both verdicts.
 const DRAWN: usize = 200;
@@ -104,7 +104,7 @@ mod tests {
             assert!(needs_all(&plan));
         }
         let plan = all_sets(random);
-        assert_eq!((plan.len(), answer(&plan)), (1_749, Answer::Refused(14)));
+        assert_eq!((plan.len(), answer(&plan)), (1_751, Answer::Refused(14)));
         assert!(needs_all(&plan));
     }
 }

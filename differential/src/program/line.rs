@@ -60,7 +60,7 @@ fn fields(counts: &Counts) -> String {
 #[cfg(test)]
 mod tests {
     use super::*;
-    use crate::program::inputs::PRINTED;
+    use crate::draft::PRINTED;
 
     #[test]
     fn the_printed_line() {

@@ -82,7 +82,9 @@ fn report(seed: u64, input: &Input, expected: &Said, came: &Result<Said, String>
 #[cfg(test)]
 mod tests {
     use super::*;
+    use crate::random::Random;
     use crate::text::MOST_BYTES;
+    use largest::JUDGED;
 
     /// What a program leaves behind that takes these bytes for the text and for the plan.
     fn judged(text: Option<&[u8]>, bytes: &[u8]) -> Said {
@@ -116,7 +118,8 @@ mod tests {
 
     #[test]
     fn a_cut_is_found_out() {
-        for length in [0, 10, 21, 512, 1_024, 1_624, 1_625, 1_748] {
+        let all_sets = largest::all_sets(&mut Random::new(7)).len();
+        for length in [0, 10, 21, 512, 1_024, JUDGED - 1, JUDGED, all_sets - 1] {
             let cut = |input: &Input| input.bytes[..length.min(input.bytes.len())].to_vec();
             let report = found(cut);
             assert!(

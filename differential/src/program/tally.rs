@@ -1,18 +1,15 @@
 //! What the inputs of the program were like and what they were answered: counted, and all of it asked for.
 
-use crate::layout::JOBS;
+use crate::layout::records;
 use crate::program::inputs::{Input, LONG_TEXTS};
 use crate::program::largest;
 use crate::program::line::{name, READ};
 use crate::program::writing::Writing;
 use crate::recess;
+use crate::refusals::{own, ALL_STAND, OF_TEXT, ORDER, SHORT_ROW};
 use reference::Answer;
 use std::collections::BTreeMap;
-use std::ops::RangeInclusive;
 
-/// The refusals that the program can give: its row is long enough for every plan. Those of a text come after that of the row.
-const REFUSALS: RangeInclusive<u32> = 1..=16;
-const REFUSALS_OF_TEXT: RangeInclusive<u32> = 18..=20;
 const VERDICTS: [&str; 2] = ["verified", "inconclusive"];
 
 const NO_BYTE: &str = "no byte";
@@ -63,27 +60,37 @@ fn without_jobs(answer: &str) -> String {
     format!("{answer} without jobs")
 }
 
+fn standing(answer: &str) -> String {
+    format!("{answer} with a standing job")
+}
+
 fn text_of(length: usize) -> String {
     format!("a text of {length} bytes")
 }
 
-/// What has to occur.
+/// What has to occur. The program's row is long enough for every plan.
 fn asked() -> Vec<String> {
     let refused = |number: u32| format!("refused {number}");
-    let mut asked: Vec<String> = REFUSALS.map(refused).collect();
+    let all_refused = |numbers: &[u32]| -> Vec<String> {
+        let given = numbers.iter().filter(|number| **number != SHORT_ROW);
+        given.map(|number| refused(*number)).collect()
+    };
+    let mut asked = all_refused(&own());
     asked.extend(VERDICTS.map(str::to_string));
     asked.extend(VERDICTS.map(on_the_largest));
     asked.extend([NO_BYTE, ONE_BYTE, ALL_READ, CUT, IN_PIECES, OPEN].map(str::to_string));
-    let refusals = REFUSALS.chain(REFUSALS_OF_TEXT).map(refused);
-    asked.extend(refusals.map(|refused| by_text(&refused)));
+    asked.extend(all_refused(&ORDER).iter().map(|refused| by_text(refused)));
     asked.extend(VERDICTS.map(by_text));
     asked.push(EMPTY_TEXT.to_string());
     asked.extend(LONG_TEXTS.map(text_of));
     asked.extend(recess::REFUSALS.map(|number| without_jobs(&refused(number))));
     asked.extend(VERDICTS.map(without_jobs));
-    let refusals = REFUSALS_OF_TEXT.map(refused);
-    asked.extend(refusals.map(|refused| by_text(&without_jobs(&refused))));
+    asked.extend(OF_TEXT.map(|number| by_text(&without_jobs(&refused(number)))));
     asked.extend(VERDICTS.map(|verdict| by_text(&without_jobs(verdict))));
+    asked.extend([6, ALL_STAND, 8].map(|number| standing(&refused(number))));
+    asked.extend(VERDICTS.map(standing));
+    asked.push(by_text(&standing(&refused(ALL_STAND))));
+    asked.extend(VERDICTS.map(|verdict| by_text(&standing(verdict))));
     asked
 }
 
@@ -95,11 +102,15 @@ fn of(input: &Input, answer: &Answer) -> Vec<String> {
         Some(text) if text.is_empty() => vec![by_text(&name), EMPTY_TEXT.to_string()],
         Some(text) => vec![by_text(&name), text_of(text.len())],
     };
-    if JOBS.read(&input.bytes) == 0 {
-        let name = without_jobs(&name);
+    let jobs = records(&input.bytes).jobs;
+    let sorts: [(bool, fn(&str) -> String); 2] = [
+        (jobs.is_empty(), without_jobs),
+        (jobs.iter().any(|job| job.standing), standing),
+    ];
+    for (_, named) in sorts.iter().filter(|(is_so, _)| *is_so) {
         met.push(match input.text {
-            None => name,
-            Some(_) => by_text(&name),
+            None => named(&name),
+            Some(_) => by_text(&named(&name)),
         });
     }
     met

@@ -9,15 +9,19 @@ pub(crate) mod least;
 mod moves;
 mod plans;
 mod recess;
+mod standing;
 
 use crate::draft::as_read;
 use crate::hex::hex;
 use crate::random::Random;
 use exploration::{explore, Explored};
-use least::{is_verified, least, Asked, HELD, HELD_BUT_BY_MEETING, HELD_BUT_BY_ORDERING};
+use least::{
+    final_set, is_verified, least, Asked, HELD, HELD_BUT_BY_MEETING, HELD_BUT_BY_ORDERING,
+};
 use plans::Small;
 use recess::Recess;
 use reference::{Automaton, Item, Kind, Plan};
+use standing::Standing;
 use std::fmt;
 use traceflow::Answer;
 
@@ -43,6 +47,8 @@ struct Tally {
     wrong: [usize; 2],
     premise: Premise,
     recess: Recess,
+    /// The plans with a standing job among the others.
+    standing: Standing,
 }
 
 /// What it is worth that ordering edges ask for the state before the move.
@@ -117,15 +123,16 @@ fn check(
 ) -> Result<(), String> {
     let plan = Plan::read(task.plan).map_err(|n| format!("read as refused {n}"))?;
     let mut row = vec![0; plan.nodes];
-    let verified = match judge(task.plan, task.text, &mut row) {
+    let (verified, counts) = match judge(task.plan, task.text, &mut row) {
         Answer::Refused(n) => return Err(format!("judged as refused {n}")),
-        Answer::Verified(_) => true,
-        Answer::Inconclusive(_) => false,
+        Answer::Verified(counts) => (true, counts),
+        Answer::Inconclusive(counts) => (false, counts),
     };
     let automaton = Automaton::of_items(&task.pattern, plan.alphabet)
         .map_err(|n| format!("no automaton, refused {n}"))?;
     let explored = explore(&plan, &task.pattern, &automaton, &row, CONFIGURATIONS)?;
     check_row(&row, &least(&plan, &automaton, HELD))?;
+    check_final(counts.final_set, final_set(&plan, &row))?;
     match explored {
         None => tally.passed_over += 1,
         Some(explored) if verified && explored.wrong > 0 => {
@@ -137,6 +144,7 @@ fn check(
         Some(explored) => {
             tally.add(&plan, verified, &explored);
             tally.premise.add(&plan, &automaton, verified, &row);
+            tally.standing.add(&plan, &automaton, &row, &explored);
         }
     }
     Ok(())
@@ -167,11 +175,21 @@ fn check_row(row: &[u64], smallest: &[u64]) -> Result<(), String> {
     Ok(())
 }
 
+/// The final set is that of the exits of the jobs that do not stand.
+fn check_final(given: u64, due: u64) -> Result<(), String> {
+    match given == due {
+        true => Ok(()),
+        false => Err(format!(
+            "the final set is {given:#x}, and the rules give {due:#x}"
+        )),
+    }
+}
+
 impl Premise {
     /// Adds a plan, its verdict and its sets.
     fn add(&mut self, plan: &Plan, automaton: &Automaton, verified: bool, row: &[u64]) {
         let before = least(plan, automaton, Asked::Nothing);
-        let was_verified = is_verified(plan, automaton, &before);
+        let was_verified = is_verified(plan, automaton, final_set(plan, &before));
         self.smaller += usize::from(before != row);
         self.gained += usize::from(verified && !was_verified);
         self.no_gain += usize::from(!verified && !was_verified);
@@ -232,7 +250,8 @@ impl Tally {
                 2_500,
             ),
         ];
-        let others = self.premise.seen().into_iter().chain(self.recess.seen());
+        let of_sorts = self.recess.seen().into_iter().chain(self.standing.seen());
+        let others = self.premise.seen().into_iter().chain(of_sorts);
         for (which, count, needed) in seen.into_iter().chain(others) {
             if count < needed {
                 return Err(format!(
@@ -250,7 +269,7 @@ impl fmt::Display for Tally {
             out,
             "{} plans, {} configurations, {} meetings taken; by kind [every, none]: verified {:?}, \
              with a complete run {:?}, of these with meetings {:?}; inconclusive {:?}, with a wrong run {:?}; \
-             {} passed over; ordering edges: {}; plans without jobs: {}",
+             {} passed over; ordering edges: {}; plans without jobs: {}; plans with a standing job: {}",
             self.plans,
             self.configurations,
             self.meetings,
@@ -261,7 +280,8 @@ impl fmt::Display for Tally {
             self.wrong,
             self.passed_over,
             self.premise,
-            self.recess
+            self.recess,
+            self.standing
         )
     }
 }
@@ -345,7 +365,10 @@ mod tests {
         let (plan, automaton) = read(plan, text);
         let sets = least(&plan, &automaton, asked);
         row.copy_from_slice(&sets);
-        verdict(is_verified(&plan, &automaton, &sets), answer)
+        verdict(
+            is_verified(&plan, &automaton, final_set(&plan, &sets)),
+            answer,
+        )
     }
 
     /// An answer that is verified for no plan with jobs, which have nodes.

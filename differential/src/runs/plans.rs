@@ -1,9 +1,10 @@
-//! Small sound plans: a run is laid out first, its moves become the plan, and a few more arcs are strewn in. Each has a second
-//! pattern, spelled as a text.
+//! Small sound plans: a run is laid out first, its moves become the plan, and a few more arcs are strewn in; or there is a memory server
+//! with some users. Each has a second pattern, spelled as a text.
 
 use crate::draft::{Arc, Draft, Item, Job};
 use crate::random::Random;
 use crate::spelling;
+use crate::standing::{server_of, stand_some, turns};
 
 pub struct Small {
     pub draft: Draft,
@@ -12,7 +13,9 @@ pub struct Small {
     pub text: Vec<u8>,
 }
 
-/// One in so many plans has no jobs.
+/// One in so many plans has a memory server.
+const SERVER: u32 = 20;
+/// One in so many of the others has no jobs.
 const RECESS: u32 = 11;
 /// Items of a pattern at most.
 const ITEMS: u32 = 9;
@@ -31,25 +34,44 @@ struct Sketch<'a> {
     string: Vec<u32>,
 }
 
-/// A plan of 1 to 4 jobs with 1 to 4 nodes each, mostly one that has a complete run; or one without jobs.
+/// A plan of either sort.
 pub fn small_plan(random: &mut Random) -> Option<Small> {
+    let (draft, typed) = match random.one_in(SERVER) {
+        true => served(random),
+        false => sketched(random),
+    };
+    let choice = spelling::typed(&typed, draft.alphabet, random)?;
+    let wordy = random.one_in(2);
+    let text = spelling::text(&choice, wordy, random)?;
+    Some(Small { draft, typed, text })
+}
+
+/// A plan of a memory server, and the items of the text.
+fn served(random: &mut Random) -> (Draft, Vec<Item>) {
+    let (services, users) = (random.within(1..=2), random.within(1..=3));
+    let [own, typed] = [(); 2].map(|()| turns(services, random));
+    (server_of(services, users, own, random), typed)
+}
+
+/// A plan of 1 to 4 jobs with 1 to 4 nodes each, mostly one that has a complete run, after which standing jobs may go on; or one without
+/// jobs. With it the items of the text.
+fn sketched(random: &mut Random) -> (Draft, Vec<Item>) {
     let mut sketch = Sketch::with_jobs(random);
     for _ in 0..sketch.random.below(8) {
         sketch.walk();
     }
     if !sketch.random.one_in(8) {
         sketch.end_all();
+        for _ in 0..sketch.random.below(3) {
+            sketch.walk();
+        }
     }
     for _ in 0..sketch.random.below(12) {
         sketch.strew();
     }
     sketch.draft.items = sketch.pattern();
     let typed = sketch.pattern();
-    let Sketch { draft, random, .. } = sketch;
-    let choice = spelling::typed(&typed, draft.alphabet, random)?;
-    let wordy = random.one_in(2);
-    let text = spelling::text(&choice, wordy, random)?;
-    Some(Small { draft, typed, text })
+    (sketch.draft, typed)
 }
 
 impl<'a> Sketch<'a> {
@@ -82,10 +104,12 @@ impl<'a> Sketch<'a> {
                 size,
                 entry: draft.nodes + entry,
                 exit: draft.nodes + exit,
+                standing: false,
             });
             first.push(draft.nodes);
             draft.nodes += size;
         }
+        stand_some(&mut draft.jobs, random);
         for _ in 0..random.below(4) {
             draft.channels.push(random.below(LAST_EVENT + 1));
         }
@@ -99,39 +123,57 @@ impl<'a> Sketch<'a> {
         }
     }
 
-    /// Two different jobs that are not at their exits, as far as there are two.
-    fn movers(&mut self) -> Vec<usize> {
-        let mut jobs: Vec<usize> = (0..self.at.len())
-            .filter(|&j| self.at[j] != self.draft.jobs[j].exit)
-            .collect();
-        while jobs.len() > 2 {
-            jobs.remove(self.random.index(jobs.len()));
-        }
-        if self.random.one_in(2) {
-            jobs.reverse();
-        }
+    /// The jobs that do not stand and are not at their exits.
+    fn under_way(&self) -> Vec<usize> {
+        let jobs = self.draft.jobs.iter().zip(&self.at).enumerate();
+        jobs.filter(|(_, (job, at))| !job.standing && **at != job.exit)
+            .map(|(j, _)| j)
+            .collect()
+    }
+
+    fn standing(&self) -> Vec<usize> {
+        let jobs = 0..self.at.len();
+        jobs.filter(|&j| self.draft.jobs[j].standing).collect()
+    }
+
+    /// Two different jobs of these, as far as there are two.
+    fn two_of(&mut self, mut jobs: Vec<usize>) -> Vec<usize> {
+        self.random.shuffle(&mut jobs);
+        jobs.truncate(2);
         jobs
     }
 
     /// One move of the run that goes to no exit.
     fn walk(&mut self) {
-        let targets: Vec<(usize, u32)> = self
-            .movers()
+        let all = [self.under_way(), self.standing()].concat();
+        let movers = self.two_of(all);
+        let targets: Vec<(usize, u32)> = movers
             .into_iter()
             .map(|j| (j, self.inner_node(j)))
             .collect();
         self.go(&targets);
     }
 
-    /// The run's last moves: every job to its exit.
+    /// The run's moves up to a complete end: every job that does not stand goes to its exit, with another one or with a standing job.
     fn end_all(&mut self) {
         loop {
-            let movers = self.movers();
+            let under_way = self.under_way();
+            let mut movers = self.two_of(under_way);
             if movers.is_empty() {
                 return;
             }
-            let exits = |&j: &usize| (j, self.draft.jobs[j].exit);
-            let targets: Vec<(usize, u32)> = movers.iter().map(exits).collect();
+            let standing = self.standing();
+            if !standing.is_empty() && self.random.one_in(2) {
+                movers.truncate(1);
+                movers.push(self.random.pick(&standing));
+            }
+            let targets: Vec<(usize, u32)> = movers
+                .into_iter()
+                .map(|j| match self.draft.jobs[j].standing {
+                    true => (j, self.inner_node(j)),
+                    false => (j, self.draft.jobs[j].exit),
+                })
+                .collect();
             self.go(&targets);
         }
     }
@@ -139,15 +181,11 @@ impl<'a> Sketch<'a> {
     /// A meeting of two jobs, or a local step of the first.
     fn go(&mut self, targets: &[(usize, u32)]) {
         match *targets {
-            [(caller, call_to), (accepter, accept_to)]
-                if !self.draft.channels.is_empty() && self.random.one_in(2) =>
-            {
-                let channel = self.channel();
-                let call = self.arc(caller, call_to, channel);
-                let accept = self.arc(accepter, accept_to, channel);
-                self.draft.calls.push(call);
-                self.draft.accepts.push(accept);
-                self.hear(self.draft.channels[channel as usize]);
+            [one, other] if !self.draft.channels.is_empty() && self.random.one_in(2) => {
+                match self.random.one_in(2) {
+                    true => self.meet(one, other),
+                    false => self.meet(other, one),
+                }
             }
             [(job, to), ..] => {
                 let event = self.random.below(LAST_EVENT + 1);
@@ -157,6 +195,16 @@ impl<'a> Sketch<'a> {
             }
             [] => {}
         }
+    }
+
+    /// A meeting of a caller and an accepter, each with the node that it goes to.
+    fn meet(&mut self, caller: (usize, u32), accepter: (usize, u32)) {
+        let channel = self.channel();
+        let call = self.arc(caller.0, caller.1, channel);
+        let accept = self.arc(accepter.0, accepter.1, channel);
+        self.draft.calls.push(call);
+        self.draft.accepts.push(accept);
+        self.hear(self.draft.channels[channel as usize]);
     }
 
     /// Moves the job, and tells by what arc.
@@ -177,11 +225,12 @@ impl<'a> Sketch<'a> {
             return;
         }
         let job = self.random.index(self.at.len());
-        if self.draft.jobs[job].size == 1 {
+        let Job { size, standing, .. } = self.draft.jobs[job];
+        if size == 1 && !standing {
             return;
         }
         let from = self.inner_node(job);
-        let to = self.first[job] + self.random.below(self.draft.jobs[job].size);
+        let to = self.first[job] + self.random.below(size);
         let kind = self.random.below(3);
         if kind == 0 || self.draft.channels.is_empty() {
             let label = self.random.below(LAST_EVENT + 1);
@@ -196,9 +245,17 @@ impl<'a> Sketch<'a> {
         }
     }
 
-    /// A node of a job with two nodes or more, other than its exit.
+    /// Any node of a standing job; of another with two nodes or more, one other than its exit.
     fn inner_node(&mut self, job: usize) -> u32 {
-        let Job { size, exit, .. } = self.draft.jobs[job];
+        let Job {
+            size,
+            exit,
+            standing,
+            ..
+        } = self.draft.jobs[job];
+        if standing {
+            return self.first[job] + self.random.below(size);
+        }
         let node = self.first[job] + self.random.below(size - 1);
         node + u32::from(node >= exit)
     }

@@ -1,6 +1,6 @@
 //! A plan put together job by job.
 
-use differential::draft::{Arc, Draft, Item, Job};
+use crate::draft::{Arc, Draft, Item, Job};
 
 pub struct Builder {
     draft: Draft,
@@ -31,8 +31,16 @@ impl Builder {
             size,
             entry: first + entry,
             exit: first + exit,
+            standing: false,
         });
         self.draft.nodes += size;
+        first
+    }
+
+    /// A standing job that begins at its first node, which is the answer.
+    pub fn standing(&mut self, size: u32) -> u32 {
+        let first = self.job(size, 0, 0);
+        self.draft.jobs.last_mut().expect("a job was added").stand();
         first
     }
 
