@@ -1,4 +1,4 @@
--- The order of all refusals of a plan that is judged. Document 01, "When a plan is turned down"; document 02, order 1.
+-- The order of all refusals of a plan that is judged. Document 01, "When a plan is turned down"; document 02, orders 1 and 5.
 use mathlib.Core.Bool.{Bool, cond}
 use mathlib.Core.List.{List, [], _∷_, _++_}
 use mathlib.Core.Option.{Option, none, some}
@@ -36,7 +36,7 @@ manyStates q b = overLimit (statesOf (expressionBy q b) (planOf b .alphabet))
 abbrev pub shortRow : (places : ℕ) → List ℕ → Bool
 shortRow places b = ltb places (planOf b .nodes)
 
--- "Checked in this order": 1 to 15, of the plan and its own items; 18 to 20, "all between 15 and 16"; 16; 17. Where none applies the
+-- "Checked in this order": 1 to 15 and 21, of the plan and its own items; 18 to 20, "all between 15 and 16"; 16; 17. Where none applies the
 -- plan is judged
 abbrev pub judgeable : Pattern → (places : ℕ) → List (Check (List ℕ))
 judgeable q places = readable ++ (textRefusal q ∷ refuse 16 (manyStates q) ∷ refuse 17 (shortRow places) ∷ [])
