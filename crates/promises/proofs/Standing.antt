@@ -24,7 +24,7 @@ use Rattle.verdict.specs.Answer.{verdictOf}
 use Rattle.verdict.proofs.Final.{AtExits, held-together, in-final, final-all}
 use Rattle.promises.specs.Order.{Pattern, expressionBy}
 use Rattle.promises.specs.Property.{stringOf}
-use Rattle.promises.specs.Judged.{Suits, finalSet, Judged}
+use Rattle.promises.specs.Judged.{Suits, Judged}
 use Rattle.promises.proofs.Sound.{states-known, gives-below}
 use Rattle.promises.proofs.Evaluate.{few-states, legal-plan}
 use Rattle.promises.proofs.Narrower.{no-refusal}
