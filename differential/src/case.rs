@@ -4,6 +4,7 @@ use crate::draft::{Draft, Item};
 use crate::fault_in_bytes::{self, mangle, noise};
 use crate::filled::filled;
 use crate::layout::{alphabet, records, Records, NODES};
+use crate::pattern::longest;
 use crate::random::Random;
 use crate::recess::recess;
 use crate::refusals::{self, comes_after, ALL_STAND, SHORT_ROW};
@@ -36,10 +37,10 @@ pub fn make(seed: u64, number: u64) -> Case {
     let refusal = |random: &mut Random| random.pick(&refusals::own());
     match random.weighted(&[50, 22, 14, 10, 4]) {
         0 => {
-            let draft = if random.one_in(200) {
-                filled(random)
-            } else {
-                any_sound(random)
+            let draft = match random.weighted(&[2, 1, 397]) {
+                0 => filled(random),
+                1 => with_most_positions(random),
+                _ => any_sound(random),
             };
             unfaulted(draft.encode(), &draft.items, random)
         }
@@ -67,6 +68,12 @@ fn any_sound(random: &mut Random) -> Draft {
         1 => server(random),
         _ => recess(random),
     }
+}
+
+fn with_most_positions(random: &mut Random) -> Draft {
+    let draft = any_sound(random);
+    let items = longest(draft.alphabet, random);
+    Draft { items, ..draft }
 }
 
 /// A plan without a fault made on purpose; its items as far as they are known.

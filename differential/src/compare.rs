@@ -5,6 +5,7 @@ use crate::case::Case;
 use crate::draft::{as_read, Item};
 use crate::hex::hex;
 use crate::layout::{alphabet, NODES};
+use crate::read_back::{self, ReadBack};
 use crate::refusals::{is_of_plan, SHORT_ROW};
 use crate::{recess_law, standing_law};
 use std::fmt::Write;
@@ -26,14 +27,16 @@ struct Outcomes {
     own: Outcome,
     typed: Outcome,
     pattern_part: Range<usize>,
+    read_back: ReadBack,
 }
 
-/// The answers that both give, by the plan's own pattern and by the text, and the pattern part.
+/// The answers that both give, by the plan's own pattern and by the text, the pattern part, and what is read back.
 #[derive(Debug)]
 pub struct Answers {
     pub own: Answer,
     pub typed: Answer,
     pub pattern_part: Range<usize>,
+    pub read_back: ReadBack,
 }
 
 /// The answers, or a report of the first difference or broken law.
@@ -51,6 +54,7 @@ pub fn compare(case: &Case) -> Result<Answers, String> {
             own: proved.own.answer,
             typed: proved.typed.answer,
             pattern_part: proved.pattern_part,
+            read_back: proved.read_back,
         }),
         Some(fault) => Err(report(&fault, case, &proved, &independent)),
     }
@@ -70,6 +74,7 @@ fn proved(case: &Case) -> Outcomes {
         own: judge(None),
         typed: judge(Some(&case.text.bytes)),
         pattern_part: traceflow::pattern_part(&case.plan),
+        read_back: read_back::proved(case),
     }
 }
 
@@ -87,6 +92,7 @@ fn independent(case: &Case) -> Outcomes {
         own: judge(None),
         typed: judge(Some(&case.text.bytes)),
         pattern_part: reference::pattern_part(&case.plan),
+        read_back: read_back::independent(case),
     }
 }
 
@@ -147,8 +153,10 @@ fn difference(one: &Outcomes, other: &Outcomes) -> Option<String> {
     if let Some(what) = differ(&one.typed, &other.typed) {
         return Some(format!("by the text {what}"));
     }
-    let differ = one.pattern_part != other.pattern_part;
-    differ.then(|| "the pattern parts differ".to_string())
+    if one.pattern_part != other.pattern_part {
+        return Some("the pattern parts differ".to_string());
+    }
+    read_back::difference(&one.read_back, &other.read_back)
 }
 
 fn broken_law(case: &Case, outcomes: &Outcomes) -> Option<String> {
@@ -162,6 +170,7 @@ fn broken_law(case: &Case, outcomes: &Outcomes) -> Option<String> {
     let by_text = |law: String| format!("by the text {law}");
     broken_by(case, &case.items, own)
         .or_else(|| broken_part(case, outcomes))
+        .or_else(|| read_back::broken(case, &own.answer, &outcomes.read_back))
         .or_else(|| broken_by_text(case, own, typed))
         .or_else(|| broken_by(case, case.text.items(), typed).map(by_text))
 }
@@ -233,7 +242,7 @@ fn misread(case: &Case) -> Option<String> {
 }
 
 /// The first place, from `start` on, where two rows differ.
-fn first_change(one: &[u64], other: &[u64], start: usize) -> Option<usize> {
+pub fn first_change(one: &[u64], other: &[u64], start: usize) -> Option<usize> {
     (start..one.len()).find(|&place| one[place] != other[place])
 }
 
@@ -244,6 +253,8 @@ fn report(fault: &str, case: &Case, proved: &Outcomes, independent: &Outcomes) -
         let part = &outcomes.pattern_part;
         let _ = writeln!(text, "{name}: {:?}, pattern part {part:?}", own.answer);
         let _ = writeln!(text, "{name}, by the text: {:?}", typed.answer);
+        let refused = outcomes.read_back.refused;
+        let _ = writeln!(text, "{name}, read back: refused {refused:?}");
     }
     let pairs = [
         ("", &proved.own, &independent.own),

@@ -3,6 +3,7 @@
 use crate::case::Case;
 use crate::compare::Answers;
 use crate::layout::{kind, CHANNELS, COUNTS, JOBS, NODES};
+use crate::read_back::coverage::ReadBacks;
 use crate::recess;
 use crate::refusals::{self, is_of_plan, MANY_STATES, OF_TEXT, ORDER};
 use crate::standing_coverage::Standing;
@@ -40,6 +41,7 @@ pub struct Coverage {
     texts: Texts,
     recess: Recess,
     standing: Standing,
+    read_backs: ReadBacks,
 }
 
 /// How often each answer was given.
@@ -178,6 +180,7 @@ impl Texts {
 impl Coverage {
     pub fn add(&mut self, case: &Case, answers: &Answers) {
         self.plans += 1;
+        self.read_backs.add(&answers.read_back);
         if JOBS.read(&case.plan) == 0 {
             self.recess.add(case, answers);
             return;
@@ -230,6 +233,7 @@ impl Coverage {
         asked.extend(self.texts.asked());
         asked.extend(self.recess.asked());
         asked.extend(self.standing.asked());
+        asked.extend(self.read_backs.asked());
         asked
     }
 

@@ -14,6 +14,7 @@ mod layout;
 mod pattern;
 pub mod program;
 pub mod random;
+mod read_back;
 mod recess;
 mod recess_law;
 mod refusals;

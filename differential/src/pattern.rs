@@ -1,6 +1,7 @@
 //! Random patterns: well-formed postfix items of many shapes.
 
 use crate::draft::Item;
+use crate::layout::MOST_ITEMS;
 use crate::random::Random;
 
 /// A pattern of at least `length` items over the alphabet.
@@ -64,6 +65,21 @@ fn comb(alphabet: u32, length: usize, random: &mut Random) -> Vec<Item> {
     let operands = length.div_ceil(2);
     let mut items: Vec<Item> = (0..operands).map(|_| leaf(alphabet, random)).collect();
     items.extend((1..operands).map(|_| binary(random)));
+    items
+}
+
+/// As many positions as a pattern may have, one event each, in sequence: all operands first, or each operator as soon as it can come.
+pub fn longest(alphabet: u32, random: &mut Random) -> Vec<Item> {
+    let sets = MOST_ITEMS / 2;
+    let one = |random: &mut Random| Item::Events(1 << random.event_of(alphabet) & alphabet);
+    let piled = random.pick(&[1, sets]);
+    let mut items: Vec<Item> = (0..piled).map(|_| one(random)).collect();
+    for _ in piled..sets {
+        items.extend([one(random), Item::Sequence]);
+    }
+    items.extend((1..piled).map(|_| Item::Sequence));
+    let length = random.pick(&[items.len(), MOST_ITEMS]);
+    lengthen(&mut items, length, random);
     items
 }
 

@@ -132,6 +132,7 @@ mod tests {
     use crate::case::faulty;
     use crate::compare::independent_answer;
     use crate::random::Random;
+    use crate::read_back;
     use crate::standing::known;
 
     #[test]
@@ -145,6 +146,7 @@ mod tests {
                 own: answer,
                 typed: answer,
                 pattern_part: reference::pattern_part(&case.plan),
+                read_back: read_back::independent(&case),
             };
             standing.add(&case, &answers);
         }

@@ -1,5 +1,5 @@
 //! Judges plan P and prints its verdict, its sets and where its pattern is; then judges it by a typed pattern; then a plan without
-//! jobs, which needs no place of the row; and last a plan of a standing job and one that calls it and ends.
+//! jobs, which needs no place of the row; a plan of a standing job and one that calls it and ends; and last it reads P back.
 use traceflow::{Answer, Counts};
 
 const PLAN: [u8; 22] = [
@@ -39,6 +39,22 @@ fn told_by(answer: Answer, said: impl Fn(Counts) -> String) -> String {
     }
 }
 
+/// What is read back of a plan: its first step, the move of state 0 by the step's event, and the states that accept.
+fn read_back(plan: &[u8]) -> Result<String, u32> {
+    let tables = traceflow::tables(plan)?;
+    let automaton = traceflow::automaton(plan)?;
+    let step = tables.steps[0];
+    Ok(format!(
+        "{} step, from {} to {} by event {}; it moves state 0 to {}, {:x} accepts",
+        tables.steps.len(),
+        step.from,
+        step.to,
+        step.label,
+        automaton.moves[0][step.label],
+        automaton.accepting
+    ))
+}
+
 fn main() {
     let mut row = [0; 256];
     let answer = traceflow::judge(&PLAN, &mut row);
@@ -55,4 +71,8 @@ fn main() {
     println!("no jobs: {}", final_told(answer));
     let answer = traceflow::judge(&STANDING, &mut row);
     println!("a standing job: {}", final_told(answer));
+    match read_back(&PLAN) {
+        Ok(told) => println!("read back: {told}"),
+        Err(number) => println!("read back: refused {number}"),
+    }
 }

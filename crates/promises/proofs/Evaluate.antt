@@ -61,7 +61,7 @@ not-refused : (n : ℕ) (t : Bool) → cond t (some n) none ≡ none → t ≡ f
 not-refused n true e = absurd (Option·some-ne-none n e)
 not-refused n false e = refl
 
-within-limit : (o : Option (List ℕ)) → overLimit o ≡ false → o ≡ some (listed o)
+pub within-limit : (o : Option (List ℕ)) → overLimit o ≡ false → o ≡ some (listed o)
 within-limit none e = cc
 within-limit (some es) e = refl
 
