@@ -148,7 +148,10 @@ impl<'a> Resolver<'a> {
         let message = if other.number(&name.text).is_some() {
             format!("{text} is {} {}; {taker}", article(other.kind), other.kind)
         } else {
-            format!("no {kind} {text}{}", hint(&name.text, due.known()))
+            let hint = hint(&name.text, due.known());
+            let declares = format!("; {} declares it", quoted(&format!("{kind} {}", name.text)));
+            let advice = if hint.is_empty() { declares } else { hint };
+            format!("no {kind} {text}{advice}")
         };
         if !name.broken && !self.skipped.contains(&name.text) {
             self.errors.push(Diagnostic::error(name.place, message));

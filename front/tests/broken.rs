@@ -311,9 +311,9 @@ job j from s to t
   s calls nothing then t
 ",
         &[
-            "4:11: no event 'b'",
-            "4:26: no event 'pared'",
-            "5:11: no channel 'nothing'",
+            "4:11: no event 'b'; 'event b' declares it",
+            "4:26: no event 'pared'; 'event pared' declares it",
+            "5:11: no channel 'nothing'; 'channel nothing' declares it",
         ],
     ),
     (
@@ -571,7 +571,7 @@ rule
             "4:6: the rule has neither 'every' nor 'never'",
             "6:8: after 'watch' comes a name",
             "9:3: the rule has its pattern in line 8; a rule has one 'every' or 'never'",
-            "10:9: no event 'd'",
+            "10:9: no event 'd'; 'event d' declares it",
             "11:5: after 'rule' comes a name",
         ],
     ),
@@ -633,7 +633,7 @@ rule r9
             "12:10: no pattern stands between '(' and ')'; the empty string is 0",
             "14:9: this ')' closes nothing",
             "16:9: this '(' is not closed",
-            "17:9: no event 'c'",
+            "17:9: no event 'c'; 'event c' declares it",
             "19:15: this ']' closes nothing",
             "21:9: this '(' is not closed",
         ],
@@ -760,9 +760,9 @@ rule r
   watch b
 ",
         &[
-            "4:9: no event 'prep'",
+            "4:9: no event 'prep'; 'event prep' declares it",
             "4:18: before 'a' stands neither ';' nor '|'",
-            "5:9: no event 'b'",
+            "5:9: no event 'b'; 'event b' declares it",
         ],
     ),
     (
@@ -796,14 +796,14 @@ rule in-order
 ",
         &[
             "2:16: event 'prepared' is declared twice; the first is in line 2",
-            "3:25: no event 'handed'",
+            "3:25: no event 'handed'; 'event handed' declares it",
             "5:15: no event 'prepard'; did you mean 'prepared'?",
             "5:40: no channel 'handover'; did you mean 'hand-over'?",
             "6:3: nothing may leave 'end', where job 'first' ends",
             "7:1: unknown word 'servise'; did you mean 'service'?",
             "8:29: unknown word 'the'; did you mean 'then'?",
             "10:20: this '(' is not closed",
-            "10:21: no event 'handed'",
+            "10:21: no event 'handed'; 'event handed' declares it",
         ],
     ),
 ];
@@ -1067,7 +1067,7 @@ fn long_lines_are_cut() {
     assert_eq!(
         shown(&line(3, 70)),
         format!(
-            "night.jobs:4:13: error: no event 'X'\n    watch e e e X{}…\n{}^\n",
+            "night.jobs:4:13: error: no event 'X'; 'event X' declares it\n    watch e e e X{}…\n{}^\n",
             " f".repeat(43),
             blanks(12)
         )
@@ -1075,7 +1075,7 @@ fn long_lines_are_cut() {
     assert_eq!(
         shown(&line(70, 70)),
         format!(
-            "night.jobs:4:147: error: no event 'X'\n    …{}X{}…\n{}^\n",
+            "night.jobs:4:147: error: no event 'X'; 'event X' declares it\n    …{}X{}…\n{}^\n",
             " e".repeat(24) + " ",
             " f".repeat(24),
             blanks(50)
@@ -1084,7 +1084,7 @@ fn long_lines_are_cut() {
     assert_eq!(
         shown(&line(70, 3)),
         format!(
-            "night.jobs:4:147: error: no event 'X'\n    …{}X f f f\n{}^\n",
+            "night.jobs:4:147: error: no event 'X'; 'event X' declares it\n    …{}X f f f\n{}^\n",
             "e ".repeat(46),
             blanks(93)
         )
