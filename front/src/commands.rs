@@ -104,6 +104,7 @@ fn known(name: &str) -> Result<&'static Command, Reply> {
 fn help_on(rest: &[OsString]) -> Result<Reply, Reply> {
     match rest {
         [] => Ok(Reply::output(help::overview())),
+        [name] if name == "help" => Ok(Reply::output(help::overview())),
         [name] => Ok(Reply::output(help::of(known(&name.to_string_lossy())?))),
         [_, second, ..] => Err(failure(too_much(second, "tuft help COMMAND"))),
     }
@@ -254,15 +255,31 @@ fn picture(
 fn unpacked(arguments: &Arguments, input: &mut dyn Read) -> Result<Reply, Reply> {
     let file = arguments.word(0);
     let bytes = files::read(file, input).map_err(failure)?;
-    let judged = judge(&bytes).map_err(|number| {
-        let (file, words) = (files::shown(file), refusals::words(number));
-        Reply::notes(FILE_ERROR, format!("{file}: refused {number}: {words}\n"))
-    })?;
+    let judged = judge(&bytes).map_err(|number| refused(file, number, &bytes))?;
     let words = unpack::words(&judged.plan).into_bytes();
     match &arguments.output {
-        None => Ok(Reply::output(words)),
-        Some(output) => written(output, &words, arguments).map(Reply::output),
+        Some(output) if !files::is_standard(output) => {
+            // names and comments would be lost
+            files::create(output, &words).map_err(failure)?;
+            Ok(Reply::output(""))
+        }
+        _ => Ok(Reply::output(words)),
     }
+}
+
+/// That bytes are refused; of words, which command reads them.
+fn refused(file: &OsStr, number: u32, bytes: &[u8]) -> Reply {
+    let (file, words) = (files::shown(file), refusals::words(number));
+    let text = std::str::from_utf8(bytes).is_ok_and(|text| text.contains("plan "));
+    let hint = if text {
+        "; a plan in words is read by 'tuft check'"
+    } else {
+        ""
+    };
+    Reply::notes(
+        FILE_ERROR,
+        format!("{file}: refused {number}: {words}{hint}\n"),
+    )
 }
 
 /// `tuft fmt`

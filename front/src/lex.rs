@@ -137,7 +137,7 @@ impl<'a> Lexed<'a> {
         }
         let mut message = format!("{} is no part of the notation", character(c));
         if c == ',' {
-            message += ": names stand one after the other, with blanks between them";
+            message += ": names stand one after the other, with blanks between them; in a pattern ';' says what comes next";
         }
         self.diagnostics.push(Diagnostic::error(place, message));
     }

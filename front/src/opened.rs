@@ -43,7 +43,13 @@ pub enum Choice {
 /// Reads a file, or standard input for `-`; or tells in a line why it cannot be read.
 pub fn open(name: &OsStr, input: &mut dyn io::Read) -> Result<Opened, String> {
     let bytes = files::read(name, input)?;
-    Ok(Opened::of(name, read(&bytes)))
+    let mut opened = Opened::of(name, read(&bytes));
+    if opened.model.is_none() && traceflow::tables(&bytes).is_ok() {
+        opened.diagnostics.clear();
+        let message = "this is a plan in bytes; 'tuft unpack' tells it in words";
+        opened.general.push(message.to_string());
+    }
+    Ok(opened)
 }
 
 impl Opened {

@@ -45,12 +45,14 @@ pub fn words(items: &[Item], names: &Names) -> String {
     joined_up(items, &|set| listed(set, "", names))
 }
 
-/// The words of a plan's pattern. A large set is told by the watched events that are not in it, where these are fewer: `[^]`, `[^prepared]`.
+/// The words of a plan's pattern. A large set, or that of all watched events, is told by those that are not in it, where these are fewer:
+/// `[^prepared]`, `[^]`.
 pub fn short(plan: &Plan, names: &Names) -> String {
     joined_up(&plan.items, &|set| {
         let others = plan.alphabet & !set;
-        let large = set.count_ones() >= LARGE_SET && others.count_ones() < set.count_ones();
-        if large {
+        let (inside, outside) = (set.count_ones(), others.count_ones());
+        let large = inside >= LARGE_SET && outside < inside;
+        if large || inside > 1 && outside == 0 {
             listed(others, "^", names)
         } else {
             listed(set, "", names)
@@ -59,7 +61,7 @@ pub fn short(plan: &Plan, names: &Names) -> String {
 }
 
 /// A set of so many events may be told by those that are not in it.
-const LARGE_SET: u32 = 2;
+const LARGE_SET: u32 = 3;
 
 /// The words of items, given those of their sets, with the fewest brackets for which they are read as these items: `;` and `|` group to the
 /// left. `P ; P*` is told as `P+`, `P | 0` as `P?`, and P three times or more as `P times 3`: they stand for just that.

@@ -26,7 +26,8 @@ pub fn lines(answers: &[Answered], names: &Names) -> String {
         .map(|answered| tell::answer(answered, names))
         .collect();
     let unreached = tell::unreached(answers, names);
-    format!("{rules}{unreached}{}", tell::summary(answers))
+    let no_end = tell::no_end(answers);
+    format!("{rules}{no_end}{unreached}{}", tell::summary(answers))
 }
 
 /// The answers, the errors and the warnings as one document.
@@ -119,7 +120,7 @@ fn final_state(state: &State, names: &Names) -> Value {
         ("number", Value::number(state.number)),
         ("seen", Value::texts(state.seen.iter().map(event))),
         ("next", Value::texts(state.next.iter().map(event))),
-        ("may_end", Value::Truth(state.may_end)),
+        ("accepted", Value::Truth(state.may_end)),
     ])
 }
 

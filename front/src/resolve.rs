@@ -4,7 +4,7 @@ use crate::expand::{count, expand, MANY};
 use crate::lex::LONGEST_NAME;
 use crate::model::{self, Place};
 use crate::parse::Parsed;
-use crate::syntax::{self, Label, Name};
+use crate::syntax::{self, Label, Name, Part};
 use names::{Nodes, Table};
 use std::collections::HashSet;
 
@@ -73,6 +73,8 @@ pub struct Rule {
     pub rule: model::Rule,
     /// The events that the rule names, with their places.
     pub mentions: Vec<(usize, Place)>,
+    /// Where the pattern stands, if it has a set of all but some events.
+    pub excepts: Option<Place>,
 }
 
 pub fn resolve(parsed: &Parsed) -> Resolved {
@@ -296,7 +298,13 @@ impl<'a> Resolver<'a> {
             alphabet,
             items: expand(&pattern.parts, &sets, alphabet),
         };
-        Some(Rule { rule, mentions })
+        let except = |part: &Part| matches!(part, Part::Set { except: true, .. });
+        let excepts = pattern.parts.iter().any(except).then_some(pattern.place);
+        Some(Rule {
+            rule,
+            mentions,
+            excepts,
+        })
     }
 
     /// None where a pattern needs too many items, which is told at its `every` or `never`.

@@ -49,7 +49,7 @@ pub fn states_of(automaton: &Automaton, alphabet: u32, given: &[u64; 32]) -> Vec
 
 /// For each event the states in which it may be given, by the sets: those of a node that a step leaves, and those that both nodes of a
 /// meeting hold.
-fn given(judged: &Judged) -> [u64; 32] {
+pub fn given(judged: &Judged) -> [u64; 32] {
     let mut given = [0; 32];
     let set = |arc: &Arc| judged.sets.get(arc.from).copied().unwrap_or(0);
     let steps = judged.plan.steps.iter().map(|step| (step.label, set(step)));
@@ -83,7 +83,7 @@ pub fn moved(automaton: &Automaton, state: usize, event: usize) -> usize {
 }
 
 /// Whether a state is in a set, in which state s has weight 2^s.
-fn holds(set: u64, state: usize) -> bool {
+pub fn holds(set: u64, state: usize) -> bool {
     states_in(set).any(|member| member == state)
 }
 
@@ -102,6 +102,23 @@ fn alive(automaton: &Automaton, watched: &[usize]) -> u64 {
             return alive;
         }
         alive = wider;
+    }
+}
+
+/// The accepting states that watched events never lead out of.
+pub fn settled(automaton: &Automaton, alphabet: u32) -> u64 {
+    let watched: Vec<usize> = events_in(alphabet).collect();
+    let mut settled = automaton.accepting;
+    loop {
+        let stays =
+            |&state: &usize| allowed(automaton, &watched, settled, state).len() == watched.len();
+        let narrower = states_in(settled)
+            .filter(stays)
+            .fold(0, |set, state| set | 1 << state);
+        if narrower == settled {
+            return settled;
+        }
+        settled = narrower;
     }
 }
 

@@ -1,8 +1,8 @@
 //! Answers in words.
 use crate::judged::{states_in, Judged};
-use crate::names::Names;
+use crate::names::{events_in, Names};
 use crate::pattern;
-use crate::states::{moved, states, State};
+use crate::states::{given, holds, moved, settled, states, State};
 use traceflow::{Job, Kind, Plan};
 
 /// So many final states are told of a rule that is open.
@@ -30,10 +30,7 @@ pub fn answer(answered: &Answered, names: &Names) -> String {
         );
     }
     if !judged.runs_may_end() {
-        return format!(
-            "{head}, but no run can end: no run brings every job to its end\n\
-             \x20      So there is no complete run, and the answer says nothing of any.\n"
-        );
+        return format!("{head}, but no run can end\n");
     }
     let demand = match judged.plan.kind {
         Kind::Every => "every complete run spells",
@@ -58,20 +55,24 @@ fn spelt_by_the_empty_run(judged: &Judged) -> &'static str {
     }
 }
 
-/// A line for each final state that breaks the rule, up to a number of them.
+/// A line for each way in which a final state breaks the rule, up to a number of them.
 fn ends(judged: &Judged, names: &Names) -> String {
     let wrong = |state: &&State| state.may_end == (judged.plan.kind == Kind::None);
     let states = states(judged);
-    let last: Vec<&State> = final_states(judged, &states).filter(wrong).collect();
-    let told = last.iter().take(MOST_ENDS);
-    let mut lines: Vec<String> = told
-        .map(|state| end(judged, &states, state, names))
-        .collect();
-    if last.len() > MOST_ENDS {
-        lines.push(format!("and {} more", last.len() - MOST_ENDS));
+    let mut told: Vec<String> = Vec::new();
+    for state in final_states(judged, &states).filter(wrong) {
+        for line in end(judged, &states, state, names) {
+            if !told.contains(&line) {
+                told.push(line);
+            }
+        }
     }
-    lines
-        .iter()
+    let more = told.len().saturating_sub(MOST_ENDS);
+    told.truncate(MOST_ENDS);
+    if more > 0 {
+        told.push(format!("and {more} more"));
+    }
+    told.iter()
         .map(|line| format!("         {line}\n"))
         .collect()
 }
@@ -81,55 +82,84 @@ pub fn final_states<'a>(judged: &Judged, states: &'a [State]) -> impl Iterator<I
     states_in(judged.counts.final_set).filter_map(|number| states.get(number))
 }
 
-/// How a run ended that breaks the rule: what it waits for, what came that the rule does not allow, or what may never be.
-fn end(judged: &Judged, states: &[State], state: &State, names: &Names) -> String {
-    let seen = seen(&state.seen, names);
+/// How a run ended that breaks the rule: what it waits for, each event that may have come where the rule does not allow it, or what may
+/// never be.
+fn end(judged: &Judged, states: &[State], state: &State, names: &Names) -> Vec<String> {
     match (judged.plan.kind, state.alive) {
-        (Kind::None, _) => format!("{seen}: that is what may never be"),
-        (Kind::Every, true) => format!(
-            "{seen}: the rule waits for {}",
+        (Kind::None, _) => {
+            let seen = seen(until_settled(judged, state), names);
+            vec![format!("{seen}: that is what may never be")]
+        }
+        (Kind::Every, true) => vec![format!(
+            "{}: the rule waits for {}",
+            seen(&state.seen, names),
             alternatives_of(&state.next, names)
-        ),
-        (Kind::Every, false) => match fault(judged, states, state) {
-            Some(fault) => fault.words(names),
-            None => format!("{seen}: the rule allows no run at all"),
+        )],
+        (Kind::Every, false) => match faults(judged, states).as_slice() {
+            [] => vec![format!(
+                "{}: the rule allows no run at all",
+                seen(&state.seen, names)
+            )],
+            faults => faults.iter().map(|fault| fault.words(names)).collect(),
         },
     }
 }
 
-/// An event at which the pattern could no longer be met, and the state before it.
-struct Fault<'a> {
-    before: &'a State,
-    event: usize,
+/// What was seen, up to the event behind which the pattern is met whatever comes.
+fn until_settled<'a>(judged: &Judged, state: &'a State) -> &'a [usize] {
+    let settled = settled(&judged.automaton, judged.plan.alphabet);
+    let mut reached = 0;
+    for (count, &event) in state.seen.iter().enumerate() {
+        if holds(settled, reached) {
+            return &state.seen[..count];
+        }
+        reached = moved(&judged.automaton, reached, event);
+    }
+    &state.seen
 }
 
-/// The first event of what was seen behind which the pattern can no longer be met. There is none where it never can.
-fn fault<'a>(judged: &Judged, states: &'a [State], state: &State) -> Option<Fault<'a>> {
-    let mut before = states.first()?;
-    for &event in &state.seen {
-        let behind = states.get(moved(&judged.automaton, before.number, event))?;
-        if before.alive && !behind.alive {
-            return Some(Fault { before, event });
-        }
-        before = behind;
-    }
-    None
+/// Events behind which the pattern can no longer be met, and the state before them.
+struct Fault<'a> {
+    before: &'a State,
+    events: Vec<usize>,
+}
+
+/// For each state the events that the sets allow there and behind which the pattern can no longer be met; those after the fewest events
+/// first.
+fn faults<'a>(judged: &Judged, states: &'a [State]) -> Vec<Fault<'a>> {
+    let given = given(judged);
+    let dead = |state: usize| states.get(state).is_some_and(|state| !state.alive);
+    let fault = |before: &'a State| {
+        let wrong = |&event: &usize| {
+            let comes = given
+                .get(event)
+                .is_some_and(|&set| holds(set, before.number));
+            comes && dead(moved(&judged.automaton, before.number, event))
+        };
+        let events = events_in(judged.plan.alphabet).filter(wrong).collect();
+        Fault { before, events }
+    };
+    let alive = states.iter().filter(|state| state.alive);
+    let mut faults: Vec<Fault> = alive.map(fault).collect();
+    faults.retain(|fault| !fault.events.is_empty());
+    faults.sort_by_key(|fault| fault.before.seen.len());
+    faults
 }
 
 impl Fault<'_> {
     fn words(&self, names: &Names) -> String {
-        let Fault { before, event } = self;
+        let Fault { before, events } = self;
         let allowed = match (before.next.is_empty(), before.may_end) {
             (true, _) => "only the end".to_string(),
             (false, false) => alternatives_of(&before.next, names),
             (false, true) => alternatives(&with_the_end(&before.next, names)),
         };
-        let event = names.event(*event);
+        let events = alternatives_of(events, names);
         if before.seen.is_empty() {
-            return format!("{event} came first, where the rule allows {allowed}");
+            return format!("{events} came first, where the rule allows {allowed}");
         }
         let seen = seen(&before.seen, names);
-        format!("{seen}: {event} came, where the rule allows {allowed}")
+        format!("{seen}: {events} came, where the rule allows {allowed}")
     }
 }
 
@@ -173,6 +203,15 @@ fn alternatives(words: &[String]) -> String {
         [] => "nothing".to_string(),
         [word] => word.clone(),
         [words @ .., last] => format!("{} or {last}", words.join(", ")),
+    }
+}
+
+/// That there is no complete run, where that is so.
+pub fn no_end(answers: &[Answered]) -> &'static str {
+    if all_may_end(answers) {
+        ""
+    } else {
+        "no run brings every job to its end, so these answers say nothing of any run\n"
     }
 }
 

@@ -1,5 +1,5 @@
 //! Warnings: what is no error, and is hardly meant.
-use crate::diagnostic::{quoted, Diagnostic};
+use crate::diagnostic::{hint, quoted, Diagnostic};
 use crate::resolve::{Channel, Job, Node, Resolved, Rule, Sort};
 
 pub fn warnings(plan: &Resolved) -> Vec<Diagnostic> {
@@ -20,6 +20,7 @@ pub fn warnings(plan: &Resolved) -> Vec<Diagnostic> {
                 .flat_map(|rule| ungiven(plan, rule, given)),
         );
     }
+    told.extend(plan.rules.iter().filter_map(|rule| one_watched(plan, rule)));
     told
 }
 
@@ -95,17 +96,42 @@ fn nothing_leads_to(job: &Job, number: usize, node: &Node) -> Diagnostic {
         return Diagnostic::warning(job.exit_place, message);
     }
     let entry = quoted(&job.nodes[job.entry].name);
-    let message = format!("nothing leads from {entry} to node {name} of job {job_name}");
+    let meant = meant(job, node);
+    let message = format!("nothing leads from {entry} to node {name} of job {job_name}{meant}");
     Diagnostic::warning(node.place, message)
+}
+
+/// Which other node may have been meant. Names that differ in their numbers alone are meant to.
+fn meant(job: &Job, node: &Node) -> String {
+    let without_digits = |name: &str| name.replace(|c: char| c.is_ascii_digit(), "");
+    let others = job.nodes.iter().map(|other| other.name.as_str());
+    let differing = others.filter(|name| without_digits(name) != without_digits(&node.name));
+    hint(&node.name, differing)
 }
 
 fn nothing_leads_on(job: &Job, node: &Node) -> Diagnostic {
     let message = format!(
-        "nothing leads on from node {} of job {}, and it is not its exit",
+        "nothing leads on from node {} of job {}, and it is not its exit{}",
         quoted(&node.name),
-        quoted(&job.name)
+        quoted(&job.name),
+        meant(job, node)
     );
     Diagnostic::warning(node.place, message)
+}
+
+/// The warning of a rule that speaks of all events but some, and sees one alone.
+fn one_watched(plan: &Resolved, rule: &Rule) -> Option<Diagnostic> {
+    let alphabet = rule.rule.alphabet;
+    let event = plan
+        .events
+        .get((alphabet.trailing_zeros() as usize).checked_sub(1)?)?;
+    let place = rule.excepts.filter(|_| alphabet.count_ones() == 1)?;
+    let message = format!(
+        "rule {} watches {} alone, and '[^ ]' takes in watched events only; 'watch' adds more",
+        quoted(&rule.rule.name),
+        quoted(event)
+    );
+    Some(Diagnostic::warning(place, message))
 }
 
 /// The warnings of events that a rule watches and that are not given, each at its first mention.

@@ -178,8 +178,8 @@ event a, b, c
 event d,e
 ",
         &[
-            "2:8: ',' is no part of the notation: names stand one after the other, with blanks between them",
-            "3:8: ',' is no part of the notation: names stand one after the other, with blanks between them",
+            "2:8: ',' is no part of the notation: names stand one after the other, with blanks between them; in a pattern ';' says what comes next",
+            "3:8: ',' is no part of the notation: names stand one after the other, with blanks between them; in a pattern ';' says what comes next",
         ],
     ),
     (
@@ -917,7 +917,45 @@ rule q
             "3:9: channel 'one' is called by job 'first', and no other job accepts it: these calls never happen",
             "12:9: rule 'r' watches 'd', and no job gives it",
             "12:11: rule 'r' watches 'b', and no job gives it",
+            "15:3: rule 'q' watches 'd' alone, and '[^ ]' takes in watched events only; 'watch' adds more",
             "15:11: rule 'q' watches 'd', and no job gives it",
+        ],
+    ),
+    (
+        "A set of all but some events, in rules that watch one or two.",
+        "\
+plan x
+event a b
+job first from s to t
+  s gives a then u gives b then t
+rule one
+  never b ; [^]*
+rule two
+  never b ; [^]*
+  watch a
+rule none
+  every [^]*
+rule plain
+  every a
+",
+        &["6:3: rule 'one' watches 'b' alone, and '[^ ]' takes in watched events only; 'watch' adds more"],
+    ),
+    (
+        "Nodes that are misspelt, and nodes that are counted.",
+        "\
+plan x
+job first from start to end
+  start then comparing then end
+  start then comparng
+  Start then end
+job second from try-1 to end
+  try-1 then try-2
+  try-1 then end
+",
+        &[
+            "4:14: nothing leads on from node 'comparng' of job 'first', and it is not its exit; did you mean 'comparing'?",
+            "5:3: nothing leads from 'start' to node 'Start' of job 'first'; did you mean 'start'?",
+            "7:14: nothing leads on from node 'try-2' of job 'second', and it is not its exit",
         ],
     ),
 ];

@@ -108,8 +108,8 @@ fn statuses_of_check() {
     assert_eq!(folder.run(&["sets", "none.jobs"]), no_rule);
     let (status, output, _) = folder.run(&["check", "stuck.jobs"]);
     let expected = "\
-HOLDS  in-order, but no run can end: no run brings every job to its end
-       So there is no complete run, and the answer says nothing of any.
+HOLDS  in-order, but no run can end
+no run brings every job to its end, so these answers say nothing of any run
 no run comes to end of first
 1 rule: 1 holds, but no run can end
 ";
@@ -232,17 +232,10 @@ fn output_that_cannot_be_written() {
             "{typed:?}"
         );
     }
-    for typed in [
-        &["pack", "a.jobs", "-o", "/dev/full"][..],
-        &["unpack", "x.plan", "-o", "/dev/full"],
-    ] {
-        folder.run(&["pack", "a.jobs", "-o", "x.plan"]);
-        assert_eq!(
-            folder.run(typed),
-            failed("/dev/full: cannot be written: there is no space left"),
-            "{typed:?}"
-        );
-    }
+    assert_eq!(
+        folder.run(&["pack", "a.jobs", "-o", "/dev/full"]),
+        failed("/dev/full: cannot be written: there is no space left")
+    );
     let nowhere = failed("no/x.svg: cannot be written: there is no such file or folder");
     assert_eq!(folder.run(&["draw", "a.jobs", "-o", "no/x.svg"]), nowhere);
 }
@@ -456,4 +449,34 @@ fn names_that_are_not_text() {
     assert_eq!(folder.run(&[OsStr::new("check"), gone]), failed(line));
     fs::write(folder.0.join("-dash.jobs"), TWO_JOBS).expect("a file");
     assert_eq!(folder.run(&["check", "--", "-dash.jobs"]).0, 0);
+}
+
+/// A plan in bytes where words are due, words where bytes are, and words that would be lost.
+#[test]
+fn bytes_and_words() {
+    let folder = Folder::new("bytes").with("a.jobs", TWO_JOBS);
+    assert_eq!(folder.run(&["pack", "a.jobs", "-o", "a.plan"]), said(0, ""));
+    let in_bytes = (
+        2,
+        String::new(),
+        "a.plan: error: this is a plan in bytes; 'tuft unpack' tells it in words\n".to_string(),
+    );
+    assert_eq!(folder.run(&["check", "a.plan"]), in_bytes);
+    let in_words = (
+        2,
+        String::new(),
+        "a.jobs: refused 2: a count of the head is outside its range; a plan in words is read by 'tuft check'\n"
+            .to_string(),
+    );
+    assert_eq!(folder.run(&["unpack", "a.jobs"]), in_words);
+    assert_eq!(
+        folder.run(&["unpack", "a.plan", "-o", "a.jobs"]),
+        failed("a.jobs: cannot be written: it is there already")
+    );
+    assert_eq!(folder.text("a.jobs"), TWO_JOBS);
+    assert_eq!(
+        folder.run(&["unpack", "a.plan", "-o", "b.jobs"]),
+        said(0, "")
+    );
+    assert_eq!(folder.run(&["help", "help"]), folder.run(&["help"]));
 }

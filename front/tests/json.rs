@@ -140,7 +140,7 @@ rule holding
           "number": 3,
           "seen": ["a", "b"],
           "next": ["b"],
-          "may_end": false
+          "accepted": false
         }
       ]
     },
@@ -160,7 +160,7 @@ rule holding
           "number": 1,
           "seen": ["a"],
           "next": [],
-          "may_end": false
+          "accepted": false
         }
       ]
     }

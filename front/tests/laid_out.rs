@@ -61,7 +61,7 @@ fn broken_files_are_not_laid_out() {
     assert_eq!(
         told.collect::<Vec<String>>(),
         [
-            "2:8: ',' is no part of the notation: names stand one after the other, with blanks between them",
+            "2:8: ',' is no part of the notation: names stand one after the other, with blanks between them; in a pattern ';' says what comes next",
             "3:6: the rule has neither 'every' nor 'never'",
         ]
     );

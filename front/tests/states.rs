@@ -35,7 +35,12 @@ fn answered(typed: &[&str], plan: &str) -> (u8, String) {
 
 /// What is said of a chain under a rule that is open, but for the line of the rule and the last one.
 fn ends(events: &[&str], rule: &str) -> Vec<String> {
-    let (status, output) = check(&chain(events, rule));
+    ends_of(&chain(events, rule))
+}
+
+/// The same of any plan.
+fn ends_of(plan: &str) -> Vec<String> {
+    let (status, output) = check(plan);
     assert_eq!(status, 1, "{output}");
     let lines: Vec<&str> = output.lines().collect();
     assert_eq!(
@@ -65,7 +70,7 @@ fn rules_that_hold() {
         check(&chain(&["a", "b"], "never b ; [a c]*")),
         (
             0,
-            "HOLDS  r: no complete run spells b ; [^b]*\n1 rule: 1 holds\n".to_string()
+            "HOLDS  r: no complete run spells b ; [a c]*\n1 rule: 1 holds\n".to_string()
         )
     );
 }
@@ -262,7 +267,7 @@ fn shorthand_of_patterns() {
         ("(a ; b) ; (a ; b)", "a ; b ; (a ; b)"),
         ("(a ; b) ; (a ; b) ; (a ; b) | c", "(a ; b) times 3 | c"),
         ("a? times 4 ; b", "a? times 4 ; b"),
-        ("[^a] times 3", "[^a] times 3"),
+        ("[^a] times 3", "[b c] times 3"),
     ];
     for (typed, told) in cases {
         told_as("a b c", typed, told);
@@ -333,8 +338,8 @@ rule seeing
 ";
     let expected = "\
 HOLDS  blind: every complete run spells 0
-HOLDS  seeing, but no run can end: no run brings every job to its end
-       So there is no complete run, and the answer says nothing of any.
+HOLDS  seeing, but no run can end
+no run brings every job to its end, so these answers say nothing of any run
 no run comes to y of two
 2 rules: 2 hold, but no run can end
 ";
@@ -360,10 +365,9 @@ rule second
 #[test]
 fn runs_that_cannot_end() {
     let expected = "\
-HOLDS  first, but no run can end: no run brings every job to its end
-       So there is no complete run, and the answer says nothing of any.
-HOLDS  second, but no run can end: no run brings every job to its end
-       So there is no complete run, and the answer says nothing of any.
+HOLDS  first, but no run can end
+HOLDS  second, but no run can end
+no run brings every job to its end, so these answers say nothing of any run
 no run comes to middle, end of one
 no run comes to middle, end of two
 2 rules: 2 hold, but no run can end
@@ -526,4 +530,70 @@ fn examples_of_events_that_may_be_given() {
         .map(|state| state.seen)
         .collect();
     assert_eq!(seen, [&[][..], &[1], &[2], &[2, 1], &[1, 1], &[3]]);
+}
+
+/// Each way in which the sets let the pattern be broken is told, those of one state in one line.
+#[test]
+fn every_wrong_event() {
+    let plan = "\
+plan p
+event deployed gave-up notified
+channel go abort tell
+job test from start to end
+  start gives gave-up then stop calls abort then end
+  start then ok calls go then end
+job deploy from idle to end
+  idle accepts go then deploying gives deployed then over
+  idle accepts abort then over
+  over calls tell then end
+job notify from idle to end
+  idle accepts tell then n gives notified then sent
+  sent gives notified then end
+  sent then end
+rule r
+  every (deployed | gave-up) ; notified
+";
+    assert_eq!(
+        ends_of(plan),
+        [
+            "after deployed: gave-up came, where the rule allows notified",
+            "after gave-up: deployed came, where the rule allows notified",
+            "after deployed, notified: deployed, gave-up or notified came, where the rule allows only the end",
+        ]
+    );
+}
+
+/// What may never be is told up to the event with which it came.
+#[test]
+fn what_may_never_be_is_told_once() {
+    let plan = |rule: &str| {
+        format!(
+            "plan p\nevent a b\njob j from s to t\n  s gives a then s\n  s gives b then s\n  s then t\nrule r\n  watch a b\n  never {rule}\n"
+        )
+    };
+    let told = |rule: &str| ends_of(&plan(rule));
+    assert_eq!(
+        told("[^]* ; a ; a ; [^]*"),
+        ["after a 2 times: that is what may never be"]
+    );
+    // it stays met behind a, whichever comes, and is met by nothing too
+    assert_eq!(
+        told("0 | a ; [^]*"),
+        [
+            "nothing seen yet: that is what may never be",
+            "after a: that is what may never be"
+        ]
+    );
+    // it is met only for a while
+    assert_eq!(
+        told("a ; a?"),
+        [
+            "after a: that is what may never be",
+            "after a 2 times: that is what may never be"
+        ]
+    );
+    assert_eq!(
+        told("[^]*"),
+        ["nothing seen yet: that is what may never be"]
+    );
 }

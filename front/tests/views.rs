@@ -112,7 +112,10 @@ fn expected_lines(model: &Model, answers: &Option<Vec<Answer>>) -> Vec<String> {
             rule.name
         )
     });
-    rules.chain(unreached_lines(model, answers)).collect()
+    let stuck = answers.iter().any(|answer| answer.last == 0);
+    let no_end = stuck.then(|| "no run brings every job to its end".to_string());
+    let unreached = unreached_lines(model, answers);
+    rules.chain(no_end).chain(unreached).collect()
 }
 
 /// A line for each job that has nodes with an empty set under one of the rules, up to the first comma.
