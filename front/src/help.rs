@@ -34,7 +34,8 @@ the order of the file.
 Nodes to which no run comes are named. Errors and warnings of the file go to
 standard error.
 
-  --json  prints one JSON document instead, errors and warnings included
+  --json  prints one JSON document instead, with the errors and warnings of the
+          file; docs/PLANS.md says what is in it
 
 Exit status: 0 all rules hold and some run may end; 1 a rule is open; 2 the
 file has an error; 3 anything else, also where all rules hold but no run can end.
@@ -102,7 +103,7 @@ The bytes have no names: jobs are called job-0, nodes n0, events e1, channels
 c0, all by their numbers. Packing the words gives the same bytes, unless the
 moves of the jobs are mixed there; a comment then says so.
 
-  -o OUT  the file to write, - for standard output, as without it
+  -o OUT  a new file to write, - for standard output, as without it
 
 Exit status: 0; 2 the bytes are refused; 3 anything else.
 ",

@@ -95,6 +95,8 @@ counted: all-before-audit OPEN
 counted-by-one: all-before-audit HOLDS
 turns: in-turns OPEN, one-at-a-time HOLDS
 own-turns: in-turns HOLDS
+told-on: one-or-the-other OPEN
+told-by-the-meeting: one-or-the-other HOLDS
 too-early: delivered-first OPEN
 ";
     let page = document("docs/PLANS.md");
