@@ -171,6 +171,22 @@ channel f gives 3
         ],
     ),
     (
+        "A pattern in the line of its rule.",
+        "\
+plan x
+event a b
+rule r every a ; c
+  watch b
+rule q watch a
+  never b
+",
+        &[
+            "3:8: 'every' begins a line of its own",
+            "3:18: no event 'c'; 'event c' declares it",
+            "5:8: 'watch' begins a line of its own",
+        ],
+    ),
+    (
         "Commas: one error a line.",
         "\
 plan x

@@ -1,5 +1,6 @@
 //! From words to rules: what they watch, and where their pattern begins and ends.
 use super::{stray, Parser, DECLARATIONS, FIRST, RULE_LINES};
+use crate::diagnostic::quoted;
 use crate::lex::{Kind, Word};
 use crate::model;
 use crate::syntax::{Name, Pattern, Rule};
@@ -12,7 +13,13 @@ impl<'a> Parser<'a> {
             place,
             broken: true,
         });
-        self.line_end();
+        match self.here() {
+            Some(word) if RULE_LINES.contains(&word.text) => {
+                let message = format!("{} begins a line of its own", quoted(word.text));
+                self.error(word.place, message);
+            }
+            _ => self.line_end(),
+        }
         let mut rule = Rule {
             name,
             pattern: None,
