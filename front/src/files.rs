@@ -1,7 +1,8 @@
 //! Reading and writing files, with errors in words.
-use std::ffi::{OsStr, OsString};
+use std::ffi::OsStr;
 use std::fs::{self, File, OpenOptions};
 use std::io::{self, ErrorKind, Read, Write};
+use std::os::unix::fs::MetadataExt;
 use std::path::{Path, PathBuf};
 
 /// So many bytes of a file are read at most: more than a plan may have in words or as bytes, so that what is longer is turned down.
@@ -20,7 +21,7 @@ pub fn shown(name: &OsStr) -> String {
     if is_standard(name) {
         "<standard input>".to_string()
     } else {
-        name.to_string_lossy().into_owned()
+        name.to_string_lossy().replace(char::is_control, "·")
     }
 }
 
@@ -40,7 +41,7 @@ fn read_from(input: impl Read) -> io::Result<Vec<u8>> {
     Ok(bytes)
 }
 
-/// Writes a file that may be there already, but is not the one that was read.
+/// Writes a file that may be there already, but is not the one that was read by its name. The old one stays until the new one is whole.
 pub fn write(name: &OsStr, bytes: &[u8], read: &OsStr) -> Result<(), String> {
     if !is_standard(read) && same(name, read) {
         return Err(format!(
@@ -48,13 +49,18 @@ pub fn write(name: &OsStr, bytes: &[u8], read: &OsStr) -> Result<(), String> {
             shown(name)
         ));
     }
-    fs::write(name, bytes).map_err(|error| not_written(name, &error))
+    let written = if Path::new(name).is_file() {
+        replaced(name, bytes)
+    } else {
+        fs::write(name, bytes)
+    };
+    written.map_err(|error| not_written(name, &error))
 }
 
 /// Whether two names are those of one file.
 fn same(first: &OsStr, second: &OsStr) -> bool {
-    match (fs::canonicalize(first), fs::canonicalize(second)) {
-        (Ok(first), Ok(second)) => first == second,
+    match (fs::metadata(first), fs::metadata(second)) {
+        (Ok(first), Ok(second)) => (first.dev(), first.ino()) == (second.dev(), second.ino()),
         _ => false,
     }
 }
@@ -87,7 +93,11 @@ pub fn replace(name: &OsStr, bytes: &[u8]) -> Result<(), String> {
 /// The new file has the permissions of the old one, which has to be one that may be written.
 fn replaced(name: &OsStr, bytes: &[u8]) -> io::Result<()> {
     let path = fs::canonicalize(name)?;
-    let permissions = fs::metadata(&path)?.permissions();
+    let metadata = fs::metadata(&path)?;
+    if !metadata.is_file() {
+        return Err(io::Error::other("it is no regular file"));
+    }
+    let permissions = metadata.permissions();
     OpenOptions::new().write(true).open(&path)?;
     let beside = beside(&path);
     created(&beside, bytes)?;
@@ -97,18 +107,11 @@ fn replaced(name: &OsStr, bytes: &[u8]) -> io::Result<()> {
 
 /// A hidden name in the same folder.
 fn beside(path: &Path) -> PathBuf {
-    let mut name = OsString::from(".");
-    name.push(path.file_name().unwrap_or_default());
-    name.push(format!(".tuft-{}", std::process::id()));
-    path.with_file_name(name)
+    path.with_file_name(format!(".tuft-{}", std::process::id()))
 }
 
 fn not_written(name: &OsStr, error: &io::Error) -> String {
-    format!(
-        "{}: cannot be written: {}",
-        name.to_string_lossy(),
-        reason(error)
-    )
+    format!("{}: cannot be written: {}", shown(name), reason(error))
 }
 
 /// Why reading or writing failed.

@@ -344,6 +344,9 @@ impl<'a> Parser<'a> {
                 "a line outside of jobs and rules begins with 'event', 'channel', 'job', 'jobs', 'service', 'services' or 'rule'".to_string()
             });
             self.told_line(word, message);
+            if word.kind == Kind::Name {
+                self.parsed.skipped.insert(word.text.to_string());
+            }
         }
         while let Some(word) = self.peek() {
             if self.at_line_start() && DECLARATIONS.iter().any(|text| word.is(text)) {

@@ -69,7 +69,7 @@ fn unreached(job: &Job) -> Vec<Diagnostic> {
         let leads_on = job.moves.iter().any(|m| m.from == number);
         if !reached[number] {
             told.push(nothing_leads_to(job, number, node));
-        } else if !leads_on && !job.standing && number != job.exit {
+        } else if !leads_on && number != job.exit {
             told.push(nothing_leads_on(job, node));
         }
     }
@@ -110,13 +110,17 @@ fn meant(job: &Job, node: &Node) -> String {
 }
 
 fn nothing_leads_on(job: &Job, node: &Node) -> Diagnostic {
-    let message = format!(
-        "nothing leads on from node {} of job {}, and it is not its exit{}",
-        quoted(&node.name),
-        quoted(&job.name),
-        meant(job, node)
-    );
-    Diagnostic::warning(node.place, message)
+    let (name, job_name) = (quoted(&node.name), quoted(&job.name));
+    let told = if job.standing {
+        format!("service {job_name}, where it stops for good")
+    } else {
+        format!("job {job_name}, and it is not its exit")
+    };
+    let meant = meant(job, node);
+    Diagnostic::warning(
+        node.place,
+        format!("nothing leads on from node {name} of {told}{meant}"),
+    )
 }
 
 /// The warning of a rule that speaks of all events but some, and sees one alone.

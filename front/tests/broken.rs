@@ -907,6 +907,7 @@ service m from i
             "4:10: nothing leads from 's' to node 'w' of job 'a'",
             "7:13: nothing leads from 's' to node 'u' of job 'b'",
             "7:15: nothing leads on from node 'v' of job 'b', and it is not its exit",
+            "12:10: nothing leads on from node 'j' of service 'm', where it stops for good",
             "13:3: nothing leads from 'i' to node 'k' of job 'm'",
         ],
     ),

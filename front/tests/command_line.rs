@@ -480,3 +480,91 @@ fn bytes_and_words() {
     );
     assert_eq!(folder.run(&["help", "help"]), folder.run(&["help"]));
 }
+
+/// A rule that is open beside one that holds because no run can end: 1 comes before 3.
+#[test]
+fn an_open_rule_where_no_run_can_end() {
+    let mixed = "\
+plan mixed
+event a
+channel k gives a
+channel c
+job x from s to e
+  s calls k then m calls c then e
+job y from p to e
+  p accepts c then q accepts k then e
+job z from p to e
+  p accepts k then e
+rule seen
+  every a
+rule unseen
+  every []
+";
+    let folder = Folder::new("mixed").with("a.jobs", mixed);
+    let (status, output, _) = folder.run(&["check", "a.jobs"]);
+    let first: Vec<&str> = output.lines().take(2).collect();
+    assert_eq!(
+        (status, first),
+        (
+            1,
+            vec![
+                "HOLDS  seen, but no run can end",
+                "OPEN   unseen: it is not shown that every complete run spells []"
+            ]
+        )
+    );
+}
+
+/// Files that never end are read in part.
+#[test]
+fn a_file_without_end() {
+    let folder = Folder::new("endless");
+    let (status, output, notes) = folder.run(&["check", "/dev/zero"]);
+    assert_eq!((status, output.as_str()), (2, ""));
+    let first = notes.lines().next();
+    let expected = "/dev/zero:1:1: error: the file is longer than 262,144 bytes";
+    assert_eq!(first, Some(expected));
+}
+
+/// What is read is not written over, under another name neither.
+#[test]
+fn a_second_name_of_a_file() {
+    let folder = Folder::new("linked").with("a.jobs", TWO_JOBS);
+    fs::hard_link(folder.0.join("a.jobs"), folder.0.join("b.plan")).expect("a link");
+    assert_eq!(
+        folder.run(&["pack", "a.jobs", "-o", "b.plan"]),
+        failed("b.plan: not written over: it was read from")
+    );
+    assert_eq!(folder.text("a.jobs"), TWO_JOBS);
+}
+
+/// Errors that the judge finds stand among the others in the order of the file.
+#[test]
+fn notes_in_the_order_of_the_file() {
+    let plan = "\
+plan p
+event a b c
+job j from s to e
+  s gives a then s gives b then e
+rule large
+  every [a b]* ; a ; [a b] times 7
+rule late
+  every a ; c
+";
+    let folder = Folder::new("order").with("a.jobs", plan);
+    let (status, _, notes) = folder.run(&["check", "a.jobs"]);
+    let lines: Vec<&str> = notes
+        .lines()
+        .filter(|line| line.starts_with("a.jobs"))
+        .collect();
+    assert_eq!(
+        (status, lines),
+        (
+            2,
+            vec![
+                "a.jobs:5:6: error: the pattern of rule 'large' needs more than 64 states; write it shorter, or as several rules",
+                "a.jobs:8:13: warning: rule 'late' watches 'c', and no job gives it"
+            ]
+        )
+    );
+}

@@ -25,6 +25,10 @@ const LAID_OUT: &[(&str, &str)] = &[
     ),
     // Comments.
     (
+        "plan x\njob j from s to t\ns then t\n\n# c\n\ns then u\n",
+        "plan x\n\njob j from s to t\n  s then t\n\n  # c\n\n  s then u\n",
+    ),
+    (
         "#a\n#\n##  b  \n#\tc\nplan x#d\nevent a   # e\n",
         "# a\n#\n##  b\n#\tc\nplan x  # d\nevent a  # e\n",
     ),

@@ -149,13 +149,19 @@ impl<'a> Parser<'a> {
         }
     }
 
-    /// Whether a move, or the end of the line, follows the next word.
+    /// Whether a move, or the end of the line, follows the next word, or the line has a word that stands in moves only.
     fn is_chain(&self) -> bool {
-        let (first, second) = (self.words.get(self.at), self.words.get(self.at + 1));
-        let (Some(first), Some(second)) = (first, second) else {
+        let words = self.words.get(self.at..).unwrap_or(&[]);
+        let line = words.first().map_or(0, |first| first.place.line);
+        let mut rest = words
+            .iter()
+            .skip(1)
+            .take_while(|word| word.place.line == line);
+        let Some(second) = rest.next() else {
             return true;
         };
-        first.place.line != second.place.line || MOVES.iter().any(|text| second.is(text))
+        let moves = |word: &Word| MOVES.iter().any(|text| word.is(text));
+        moves(second) || rest.any(|word| moves(word) && !word.is("gives"))
     }
 
     fn stray_in_job(&mut self, word: Word<'a>) {
