@@ -437,6 +437,7 @@ job k times many from s to t
 job times 3 from s to t
 service m from s to t
 service n o from s
+job import start to end
 ",
         &[
             "2:7: unknown word 'form'; did you mean 'from'?",
@@ -451,6 +452,7 @@ service n o from s
             "11:5: 'times' is a word of the notation and no name",
             "12:18: a service never ends: it takes no 'to'",
             "13:11: 'service' takes one name; several stand behind 'services'",
+            "14:12: after 'import' comes 'from' and a node",
         ],
     ),
     (

@@ -71,7 +71,11 @@ impl<'a> Parser<'a> {
         let known = ["from", "times"];
         let second = self.here().filter(|second| second.kind == Kind::Name);
         let second = second.filter(|second| nearest(second.text, known.into_iter()).is_none());
-        if let Some(second) = second.filter(|_| !names.is_empty()) {
+        // where neither follows it is missing, and that is told
+        let follows = self
+            .rest_of_line()
+            .any(|w| known.iter().any(|text| w.is(text)));
+        if let Some(second) = second.filter(|_| follows && !names.is_empty()) {
             let message = format!("'{word}' takes one name; several stand behind '{word}s'");
             self.error(second.place, message);
             names.extend(self.names(word));
@@ -84,6 +88,13 @@ impl<'a> Parser<'a> {
             return Some(None);
         }
         self.number(self.here(), 16).map(Some)
+    }
+
+    /// The words from the next one to the end of its line.
+    fn rest_of_line(&self) -> impl Iterator<Item = &Word<'a>> {
+        let words = self.words.get(self.at..).unwrap_or(&[]);
+        let line = words.first().map_or(0, |first| first.place.line);
+        words.iter().take_while(move |word| word.place.line == line)
     }
 
     /// `from` or `to`, and the node behind it.
@@ -151,12 +162,7 @@ impl<'a> Parser<'a> {
 
     /// Whether a move, or the end of the line, follows the next word, or the line has a word that stands in moves only.
     fn is_chain(&self) -> bool {
-        let words = self.words.get(self.at..).unwrap_or(&[]);
-        let line = words.first().map_or(0, |first| first.place.line);
-        let mut rest = words
-            .iter()
-            .skip(1)
-            .take_while(|word| word.place.line == line);
+        let mut rest = self.rest_of_line().skip(1);
         let Some(second) = rest.next() else {
             return true;
         };
