@@ -14,7 +14,7 @@ use Rattle.items.specs.Tables.{itemsOn}
 use Rattle.positions.specs.declared.Positions.{Positions}
 use Rattle.positions.proofs.Whole.{pattern-few}
 use Rattle.automaton.specs.declared.States.{States}
-use Rattle.automaton.specs.Automaton.{statesOf}
+use Rattle.automaton.specs.Automaton.{statesOf, tableOf}
 use Rattle.automaton.specs.Tables.{Of, Apart, setTable, stateTable}
 use Rattle.automaton.specs.Search.{grown}
 use Rattle.automaton.proofs.Growth.{kept-count, kept-fits}
@@ -94,7 +94,7 @@ returns c =
     let accepts = c .before .before .before .before .before .before .before .before .before .before .accepting-of .ensures r es (ends-are (t .before)) grows in
     let places : place (s .sets) ≡ place es = ap (λ (x : States). place (x .sets)) (f .2) ∙ padded-places 96 es in
     let states = c .before .before .before .before .before .before .first-states .ensures ∙ ap (row 64) places in
-    let moves = c .moves-of .ensures r es _ (of (t .before)) grows in (
+    let moves : c .moves-of .result ≡ tableOf r alphabet es = c .moves-of .ensures r es _ (of (t .before)) grows in (
       sym (ap limitOf (f .1)),
       (λ i. property (kept-count es s (f .2) i ∷ accepts i ∷ []) (states i) (moves i))
           ∙ sym (ap (λ (o : Option (List ℕ)). propertyWith r alphabet o (before (start (t .before)))) (f .1)),
