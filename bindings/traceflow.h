@@ -19,7 +19,7 @@ enum {
     TRACEFLOW_MEETINGS,
     TRACEFLOW_ORDERING,
     TRACEFLOW_PAIRS,
-    TRACEFLOW_FILL, /* the pairs in hundredths of nodes x states, rounded, an exact half to the even number; 0 without nodes */
+    TRACEFLOW_FILL,
     TRACEFLOW_FINAL, /* what the exits of jobs that do not stand have in common, state 0 without jobs; state s has weight 2^s */
     TRACEFLOW_COUNTS
 };

@@ -7,7 +7,7 @@ use crate::hex::hex;
 use crate::layout::{alphabet, NODES};
 use crate::read_back::{self, ReadBack};
 use crate::refusals::{is_of_plan, SHORT_ROW};
-use crate::{halves, recess_law, standing_law};
+use crate::{recess_law, standing_law};
 use std::fmt::Write;
 use std::ops::Range;
 use std::panic::catch_unwind;
@@ -183,7 +183,7 @@ fn broken_by(case: &Case, items: &[Item], outcome: &Outcome) -> Option<String> {
         .or_else(|| standing_law::broken(&case.records, row, answer))
 }
 
-/// A refusal leaves all that is lent. A verdict counts the pairs of its row, has the fill that they give and leaves the later places.
+/// A refusal leaves all that is lent. A verdict counts the pairs of its row and leaves the later places.
 fn broken_lending(case: &Case, outcome: &Outcome) -> Option<String> {
     let (word, kept) = match outcome.answer {
         Answer::Refused(_) => ("refusal", 0),
@@ -193,9 +193,6 @@ fn broken_lending(case: &Case, outcome: &Outcome) -> Option<String> {
             let members: u32 = sets.map(|set| set.count_ones()).sum();
             if counts.pairs != members || members > nodes * counts.states {
                 return Some(format!("the row has {members} pairs"));
-            }
-            if let Some(law) = halves::broken(counts.fill, members, nodes * counts.states) {
-                return Some(law);
             }
             ("verdict", nodes as usize)
         }
@@ -394,22 +391,6 @@ mod tests {
             let sets = jobs.map(|job| outcome.row.get(job.exit as usize).copied());
             let all = sets.reduce(|common, set| Some(common? & set?))??;
             let wrong = with_final_set(outcome.answer, all);
-            (wrong != outcome.answer).then_some(wrong)
-        });
-    }
-
-    #[test]
-    fn a_fill_by_another_rule_for_halves_is_found_out() {
-        all_found_out(|case, _, outcome| {
-            let mut wrong = outcome.answer;
-            if let Answer::Verified(counts) | Answer::Inconclusive(counts) = &mut wrong {
-                let cells = NODES.read(&case.plan) * counts.states;
-                // The odd neighbour.
-                match halves::side(counts.pairs, cells)? {
-                    0 => counts.fill += 1,
-                    _ => counts.fill -= 1,
-                }
-            }
             (wrong != outcome.answer).then_some(wrong)
         });
     }

@@ -2,7 +2,6 @@
 
 use crate::case::Case;
 use crate::compare::Answers;
-use crate::halves::Halves;
 use crate::layout::{kind, CHANNELS, COUNTS, JOBS, NODES};
 use crate::read_back::coverage::ReadBacks;
 use crate::recess;
@@ -38,8 +37,6 @@ pub struct Coverage {
     held_final: u64,
     /// Refusal 5 of nodes 0 with jobs.
     no_nodes: u64,
-    /// By the plan's own pattern, and by the text.
-    halves: [Halves; 2],
     typed: Tally,
     texts: Texts,
     recess: Recess,
@@ -197,15 +194,6 @@ impl Coverage {
         self.typed.add(&case.plan, &answers.typed);
         self.texts.add(case, answers);
         self.standing.add(case, answers);
-        self.add_fills(&case.plan, answers);
-    }
-
-    fn add_fills(&mut self, plan: &[u8], answers: &Answers) {
-        for (halves, answer) in self.halves.iter_mut().zip([&answers.own, &answers.typed]) {
-            if let Answer::Verified(counts) | Answer::Inconclusive(counts) = answer {
-                halves.add(counts.pairs, NODES.read(plan) * counts.states);
-            }
-        }
     }
 
     fn add_verdict(&mut self, plan: &[u8], counts: &Counts) {
@@ -241,9 +229,6 @@ impl Coverage {
             ("refused 5, nodes 0 with jobs".to_string(), self.no_nodes),
         ];
         asked.extend(others);
-        let [own, typed] = &self.halves;
-        asked.extend(own.asked(""));
-        asked.extend(typed.asked("text: "));
         asked.extend(self.typed.asked(ORDER, "text: "));
         asked.extend(self.texts.asked());
         asked.extend(self.recess.asked());

@@ -9,7 +9,6 @@ mod fault_in_bytes;
 mod fault_in_items;
 mod fault_in_jobs;
 mod filled;
-mod halves;
 mod hex;
 mod layout;
 mod pattern;

@@ -134,7 +134,7 @@ rule holding
       "meetings": 0,
       "ordering": 0,
       "pairs": 3,
-      "fill": 12,
+      "fill": 13,
       "final": [
         {
           "number": 3,

@@ -1,6 +1,5 @@
 //! Judges plan P and prints its verdict, its sets and where its pattern is; then judges it by a typed pattern; then a plan without
-//! jobs, which needs no place of the row; a plan of a standing job and one that calls it and ends, with 6 pairs of 16; a job of eight
-//! nodes, with one pair; and last it reads P back.
+//! jobs, which needs no place of the row; a plan of a standing job and one that calls it and ends; and last it reads P back.
 use traceflow::{Answer, Counts};
 
 const PLAN: [u8; 22] = [
@@ -18,10 +17,6 @@ const STANDING: [u8; 36] = [
     0x00, 0x00, 0x00, 0xd0,
 ];
 
-const EIGHT: [u8; 15] = [
-    0x08, 0x20, 0x00, 0x00, 0x00, 0x00, 0x04, 0x00, 0x00, 0x00, 0x00, 0x20, 0x00, 0x1c, 0x00,
-];
-
 /// The refusal, or the verdict, its states and the sets of the two nodes.
 fn told(answer: Answer, row: &[u64]) -> String {
     told_by(answer, |counts| {
@@ -30,11 +25,9 @@ fn told(answer: Answer, row: &[u64]) -> String {
     })
 }
 
-/// The refusal, or the verdict, the fill and the final set.
-fn counts_told(answer: Answer) -> String {
-    told_by(answer, |counts| {
-        format!("fill {}, final {:x}", counts.fill, counts.final_set)
-    })
+/// The refusal, or the verdict and the final set.
+fn final_told(answer: Answer) -> String {
+    told_by(answer, |counts| format!("final {:x}", counts.final_set))
 }
 
 /// The refusal, or the verdict and what is to be said of its counts.
@@ -75,11 +68,9 @@ fn main() {
     let answer = traceflow::judge_text(&PLAN, b"a;a", &mut row);
     println!("by a;a: {}", told(answer, &row));
     let answer = traceflow::judge(&RECESS, &mut []);
-    println!("no jobs: {}", counts_told(answer));
+    println!("no jobs: {}", final_told(answer));
     let answer = traceflow::judge(&STANDING, &mut row);
-    println!("a standing job: {}", counts_told(answer));
-    let answer = traceflow::judge(&EIGHT, &mut row);
-    println!("eight nodes: {}", counts_told(answer));
+    println!("a standing job: {}", final_told(answer));
     match read_back(&PLAN) {
         Ok(told) => println!("read back: {told}"),
         Err(number) => println!("read back: refused {number}"),

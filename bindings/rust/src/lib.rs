@@ -10,7 +10,6 @@ pub struct Counts {
     pub meetings: u32,
     pub ordering: u32,
     pub pairs: u32,
-    /// The pairs in hundredths of nodes × states, rounded, an exact half to the even number; 0 where there are no nodes.
     pub fill: u32,
     /// What the exits of jobs that do not stand have in common, state 0 where there are no jobs; state s has weight 2^s.
     pub final_set: u64,

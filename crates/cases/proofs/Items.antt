@@ -7,9 +7,9 @@ use lib.ListN.{take, drop, set, replicate}
 use Rattle.fields.specs.Bits.{bits_of, value_from, field_at, events_from, events_at}
 use Rattle.plan.specs.Checks.{first}
 use Rattle.plan.proofs.Cases.{P, Fields, packed, agree}
-use Rattle.regex.specs.Expression.{Expression, seq, alt, star}
-use Rattle.regex.specs.Expression as expression
-use Rattle.regex.specs.Items.{push_all, pattern_of}
+use Rattle.expressions.specs.Expression.{Expression, seq, alt, star}
+use Rattle.expressions.specs.Expression as expression
+use Rattle.expressions.specs.Items.{push_all, pattern_of}
 use Rattle.item.specs.Faults.{item_at}
 use Rattle.items.specs.Refusals.{read, items_in, items_refusal}
 use Rattle.items.proofs.Cases.{kind, one, empty, sequence, choice, repeat}

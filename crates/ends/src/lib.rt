@@ -14,7 +14,7 @@ use plan::Outcome;
 use sections::{Decoded, Jobs};
 
 // What the tests of arcs go by, beside the job of each node.
-#[derive(Drop)]
+#[derive(Clone, Copy)]
 struct Bounds {
     nodes: usize,
     exit: [u8; 16],

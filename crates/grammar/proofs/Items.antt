@@ -4,8 +4,8 @@ use mathlib.Core.List.{List, [], ◌∷◌, ◌++◌, append-nil, append_assoc}
 use Prim.Native.Nat.{ℕ, ◌≤◌}
 use native.Mathlib.Omega.{arith}
 use lib.ListN.{length}
-use Rattle.regex.specs.Expression.{Expression}
-use Rattle.regex.specs.Items.{Item, sequence, choice, repeat, arity, push, push_all, operands, newest, pattern_of}
+use Rattle.expressions.specs.Expression.{Expression}
+use Rattle.expressions.specs.Items.{Item, sequence, choice, repeat, arity, push, push_all, operands, newest, pattern_of}
 use Rattle.grammar.specs.Grammar.{Tree, empty_string, one_of, noneOf, followed, either, starred}
 use Rattle.grammar.specs.Meaning.{expression_of, items_of}
 

@@ -4,9 +4,9 @@ use Rattle.std.specs.Prelude.{Bool, true, false, not, List, [], ◌∷◌, ◌++
 use Rattle.std.proofs.Math.Option.{Option, none, some}
 use Rattle.std.specs.Int.Bits.{bit_or, bit_and}
 use Rattle.masks.specs.Mask.{has}
-use Rattle.regex.specs.Expression as expression
-use Rattle.regex.specs.Expression.{Expression}
-use Rattle.regex.specs.Items.{Item, empty, events, sequence, choice, repeat}
+use Rattle.expressions.specs.Expression as expression
+use Rattle.expressions.specs.Expression.{Expression}
+use Rattle.expressions.specs.Items.{Item, empty, events, sequence, choice, repeat}
 use Rattle.plan.specs.Checks.{Check, refuse, any}
 use Rattle.grammar.specs.Grammar.{Tree, empty_string, one_of, noneOf, followed, either, starred}
 

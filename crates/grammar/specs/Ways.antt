@@ -2,7 +2,7 @@
 use Rattle.std.specs.Prelude.{◌≡◌, Bool, false, ◌&&◌, cond, List, [], ◌∷◌, ℕ, ◌-◌, leb, eqb, drop}
 use Rattle.std.proofs.Math.Option.{Option, none, some}
 use Rattle.rows.specs.Rows.{row, place}
-use Rattle.regex.specs.Items.{Item, empty, events, sequence, choice, repeat}
+use Rattle.expressions.specs.Items.{Item, empty, events, sequence, choice, repeat}
 use Rattle.grammar.specs.Grammar.{Tree, empty_string, one_of, noneOf, followed, either, starred, semicolon, bar, asterisk, nought, opening, closing, opening_set, closing_set, caret}
 use Rattle.grammar.specs.Meaning.{listed, without}
 

@@ -8,7 +8,7 @@ use native.Mathlib.Omega.{arith}
 use borrow.Author.Tests.{eqb-true, ltb-false, le-ltb}
 use lib.Dec.{ltb, eqb}
 use Rattle.plan.specs.Checks.{or_else, first}
-use Rattle.regex.specs.Items.{Item, empty, events, sequence, choice, repeat, arity}
+use Rattle.expressions.specs.Items.{Item, empty, events, sequence, choice, repeat, arity}
 use Rattle.item.specs.Faults.{cut, kind_at, set_at, item_of, item_at, width, strange, faults}
 use Rattle.item.specs.Found.{kind_of, set_of}
 

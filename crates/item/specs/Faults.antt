@@ -3,7 +3,7 @@ use Rattle.std.specs.Prelude.{Bool, ◌&&◌, cond, not, List, [], ◌∷◌, �
 use Rattle.std.specs.Int.Bits.{bit_and}
 use Rattle.fields.specs.Bits.{field_at, events_at}
 use Rattle.plan.specs.Checks.{Check, refuse}
-use Rattle.regex.specs.Items.{Item, empty, events, sequence, choice, repeat, arity}
+use Rattle.expressions.specs.Items.{Item, empty, events, sequence, choice, repeat, arity}
 
 -- ---- one item
 

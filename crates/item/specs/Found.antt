@@ -3,7 +3,7 @@ use Rattle.std.specs.Prelude.{List, ℕ}
 use Rattle.std.proofs.Math.Option.{Option, none, some}
 use Rattle.plan.specs.declared.Outcome.TheVariants.{Accepted, Refused}
 use Rattle.plan.specs.Checks.{first}
-use Rattle.regex.specs.Items.{Item, empty, events, sequence, choice, repeat}
+use Rattle.expressions.specs.Items.{Item, empty, events, sequence, choice, repeat}
 use Rattle.item.specs.declared.Found.{Found}
 use Rattle.item.specs.Faults.{Point, item_at, faults}
 

@@ -1,7 +1,7 @@
 // One item of a pattern: its bits, its operands, and the refusals 10 to 13.
 ghost use Rattle.std.specs.Prelude.{◌≡◌, ◌≤◌};
 ghost use Rattle.std.proofs.Math.Option.{some};
-ghost use Rattle.regex.specs.Items.{empty, arity};
+ghost use Rattle.expressions.specs.Items.{empty, arity};
 ghost use Rattle.item.specs.Faults.{cut, item_of, width, strange};
 ghost use Rattle.item.specs.Found.{found_as, found};
 

@@ -13,7 +13,7 @@ use Rattle.rows.specs.Rows.{row}
 use Rattle.rows.proofs.Rows.{column_at, row_take, row_places}
 use Rattle.plan.specs.Checks.{refuse, first}
 use Rattle.plan.proofs.Tests.{or_none, first_none}
-use Rattle.regex.specs.Items.{Item, empty, arity, operands}
+use Rattle.expressions.specs.Items.{Item, empty, arity, operands}
 use Rattle.item.specs.Faults.{item_at, item_of, faults}
 use Rattle.items.specs.Refusals.{Spot, Read, faulty, up_to, point_of, depth, judged, one_more, not_one, bytes, trailing, leftovers, refusal_of, items_of, read, items_in, items_refusal}
 use Rattle.item.specs.Found.{kind_of, set_of}

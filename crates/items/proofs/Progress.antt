@@ -14,8 +14,8 @@ use Rattle.plan.specs.declared.Outcome.TheVariants.{Accepted, Refused}
 use Rattle.plan.specs.Checks.{first}
 use Rattle.plan.specs.Outcomes.{outcome_of}
 use Rattle.plan.proofs.Ends.{outcome_refused, outcome_accepted}
-use Rattle.regex.specs.Items.{Item, arity, operands, push}
-use Rattle.regex.proofs.Operands.{push_none, push_more, push_length}
+use Rattle.expressions.specs.Items.{Item, arity, operands, push}
+use Rattle.expressions.proofs.Operands.{push_none, push_more, push_length}
 use Rattle.item.specs.declared.Found.{Found}
 use Rattle.items.specs.declared.Scan.{Scan}
 use Rattle.item.specs.Faults.{kind_at, item_of, item_at, width, faults}

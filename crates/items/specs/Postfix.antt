@@ -1,7 +1,7 @@
 -- Items that are an expression in postfix form, as the reader leaves them.
 use Rattle.std.specs.Prelude.{◌≡◌, ℕ, ◌≤◌, ◌<◌, length}
 use Rattle.rows.specs.Rows.{row}
-use Rattle.regex.specs.Items.{arity, operands}
+use Rattle.expressions.specs.Items.{arity, operands}
 use Rattle.items.specs.declared.Items.{Items}
 use Rattle.items.specs.Tables.{item_on, items_on}
 

@@ -3,7 +3,7 @@ use Rattle.std.specs.Prelude.{List, [], map, ℕ, length}
 use Rattle.std.proofs.Math.Option.{Option, none, some}
 use Rattle.rows.specs.Rows.{row, padded, place}
 use Rattle.plan.specs.declared.Outcome.TheVariants.{Accepted, Refused}
-use Rattle.regex.specs.Items.{Item}
+use Rattle.expressions.specs.Items.{Item}
 use Rattle.item.specs.Faults.{item_of}
 use Rattle.item.specs.Found.{kind_of, set_of}
 use Rattle.items.specs.declared.Items.{Items}

@@ -14,8 +14,8 @@ use Rattle.plan.specs.Nodes.{owners_from, total}
 use Rattle.plan.specs.Refusals.{counts_outside}
 use Rattle.plan.proofs.Cases as plans
 use Rattle.plan.proofs.Cases.{P, Fields, packed, job, step, channel, link, agree}
-use Rattle.regex.specs.Items.{push_all}
-use Rattle.regex.specs.Positions as positions
+use Rattle.expressions.specs.Items.{push_all}
+use Rattle.expressions.specs.Positions as positions
 use Rattle.numbering.specs.Numbering.{index, collect, build, states}
 use Rattle.item.specs.Faults.{item_at}
 use Rattle.items.specs.Refusals.{read, items_refusal}

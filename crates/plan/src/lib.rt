@@ -8,7 +8,7 @@ ghost use Rattle.plan.specs.Outcomes.{outcome_of};
 use sections::{Head, Jobs};
 
 // What checks answer: no refusal, or the number of the first that applies.
-#[derive(Drop)]
+#[derive(Clone, Copy)]
 pub enum Outcome {
     Accepted,
     Refused(u32),

@@ -6,7 +6,7 @@ use native.Mathlib.Numerals.{add-one}
 use native.Mathlib.Omega.{arith}
 use lib.ListN.{length, get_or, set, drop}
 use lib.Seq.{get_or-set_same, get_or-set_other}
-use Rattle.regex.specs.Stack.{Operand as Masks}
+use Rattle.expressions.specs.Stack.{Operand as Masks}
 use Rattle.positions.specs.declared.Operand.{Operand}
 use Rattle.positions.specs.Making.{nothing, operand_of}
 

@@ -7,11 +7,11 @@ use Prim.Native.Nat.{ℕ, zero, suc, ◌+◌, ◌-◌, ◌^◌, ◌≤◌, ◌<�
 use native.Mathlib.Omega.{arith}
 use lib.ListN.{length, get_or, set, length-set}
 use Rattle.rows.specs.Rows.{row, place}
-use Rattle.regex.specs.Expression.{Expression}
-use Rattle.regex.specs.Items.{Item, empty, events, sequence, choice, repeat, arity, push}
-use Rattle.regex.specs.Positions.{size}
-use Rattle.regex.specs.Stack.{free, Operand as Masks, masks, operand_at, follows, holdings, both_of, either_of, many_of}
-use Rattle.regex.proofs.Stack as stack
+use Rattle.expressions.specs.Expression.{Expression}
+use Rattle.expressions.specs.Items.{Item, empty, events, sequence, choice, repeat, arity, push}
+use Rattle.expressions.specs.Positions.{size}
+use Rattle.expressions.specs.Stack.{free, Operand as Masks, masks, operand_at, follows, holdings, both_of, either_of, many_of}
+use Rattle.expressions.proofs.Stack as stack
 use Rattle.item.specs.Faults.{item_of}
 use Rattle.positions.specs.declared.Operand.{Operand}
 use Rattle.positions.specs.declared.Made.{Made}

@@ -11,12 +11,12 @@ use lib.Bits.{bit_or}
 use lib.ListN.{length, set}
 use Rattle.rows.specs.Rows.{row}
 use Rattle.rows.proofs.Rows.{row_more, row_ext}
-use Rattle.regex.specs.Expression.{Expression}
-use Rattle.regex.specs.Items.{Item, empty, events, sequence, choice, repeat, arity, push, operands, newest, pattern_of}
-use Rattle.regex.specs.Positions.{size, first, after, final}
-use Rattle.regex.proofs.Operands.{push_none, push_more, push_length, free_push, Counted, counted_none, counted_push, counted_free}
-use Rattle.regex.proofs.Stack.{holdings_one}
-use Rattle.regex.specs.Stack.{free, Operand as Masks, operand_at, follows, holdings}
+use Rattle.expressions.specs.Expression.{Expression}
+use Rattle.expressions.specs.Items.{Item, empty, events, sequence, choice, repeat, arity, push, operands, newest, pattern_of}
+use Rattle.expressions.specs.Positions.{size, first, after, final}
+use Rattle.expressions.proofs.Operands.{push_none, push_more, push_length, free_push, Counted, counted_none, counted_push, counted_free}
+use Rattle.expressions.proofs.Stack.{holdings_one}
+use Rattle.expressions.specs.Stack.{free, Operand as Masks, operand_at, follows, holdings}
 use Rattle.items.specs.Tables.{item_on, items_on}
 use Rattle.items.specs.Postfix.{Postfix}
 use Rattle.items.specs.declared.Items.{Items}

@@ -1,8 +1,8 @@
 -- The table of the positions of a pattern, and of the items that are lent for it. Document 01, "Pattern and automaton".
 use Rattle.std.specs.Prelude.{List, ℕ, suc}
 use Rattle.rows.specs.Rows.{row}
-use Rattle.regex.specs.Expression.{Expression}
-use Rattle.regex.specs.Positions.{size, after, holding, final}
+use Rattle.expressions.specs.Expression.{Expression}
+use Rattle.expressions.specs.Positions.{size, after, holding, final}
 use Rattle.items.specs.declared.Items.{Items}
 use Rattle.positions.specs.declared.Positions.{Positions}
 

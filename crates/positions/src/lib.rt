@@ -1,7 +1,7 @@
 // The positions of a pattern, built item by item: what may follow each, and which hold each event.
 ghost use Rattle.std.specs.Prelude.{◌≡◌, cond, ℕ, length};
 ghost use Rattle.rows.specs.Rows.{row, place};
-ghost use Rattle.regex.specs.Items.{empty, events, sequence, choice, repeat, pattern_of};
+ghost use Rattle.expressions.specs.Items.{empty, events, sequence, choice, repeat, pattern_of};
 ghost use Rattle.item.specs.Faults.{item_of};
 ghost use Rattle.items.specs.Tables.{items_on};
 ghost use Rattle.items.specs.Postfix.{Postfix};
@@ -22,7 +22,7 @@ pub struct Positions {
 }
 
 // What an item needs to know of an operand: whether it holds the empty string, and what may begin and end its strings.
-#[derive(Drop)]
+#[derive(Clone, Copy)]
 struct Operand {
     null: bool,
     first: u64,

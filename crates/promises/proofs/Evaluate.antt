@@ -14,7 +14,7 @@ use Rattle.plan.specs.Checks.{refuse, or_else, first}
 use Rattle.plan.specs.Legal.{Legal}
 use Rattle.plan.proofs.Tests.{both_none}
 use Rattle.plan.proofs.Legality.{legal}
-use Rattle.regex.specs.Expression.{Expression}
+use Rattle.expressions.specs.Expression.{Expression}
 use Rattle.automaton.specs.Automaton.{states_of}
 use Rattle.pattern.specs.Refusals.{readable, over_limit}
 use Rattle.pattern.proofs.Part.{before_items}

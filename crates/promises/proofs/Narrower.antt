@@ -13,7 +13,7 @@ use Rattle.sections.specs.Plan.{Plan}
 use Rattle.sections.specs.Layout.{plan_of}
 use Rattle.plan.specs.Nodes.{exit_of, must_end}
 use Rattle.plan.specs.Legal.{Legal}
-use Rattle.regex.specs.Expression.{Expression}
+use Rattle.expressions.specs.Expression.{Expression}
 use Rattle.graph.specs.Flow.{Flow}
 use Rattle.graph.proofs.Fewer.{flow_narrower}
 use Rattle.growth.specs.Table.{by_table}

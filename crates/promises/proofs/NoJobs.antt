@@ -21,7 +21,7 @@ use Rattle.sections.specs.Layout.{plan_of}
 use Rattle.plan.specs.Nodes.{exit_of, must_end}
 use Rattle.plan.specs.Legal.{Legal}
 use Rattle.plan.proofs.NoJobs.{no_nodes}
-use Rattle.regex.specs.Expression.{Expression, Language}
+use Rattle.expressions.specs.Expression.{Expression, Language}
 use Rattle.automaton.specs.Automaton.{states_of}
 use Rattle.graph.specs.Moves.{Move, watched}
 use Rattle.graph.specs.Runs.{begin, Run, Complete}

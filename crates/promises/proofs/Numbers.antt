@@ -6,7 +6,7 @@ use mathlib.Core.Option.{Option, none, some, some-injective}
 use Prim.Native.Nat.{ℕ, zero, suc, ◌+◌}
 use native.Mathlib.Omega.{arith}
 use lib.Dec.{ltb}
-use Rattle.regex.specs.Items.{arity}
+use Rattle.expressions.specs.Items.{arity}
 use Rattle.sections.specs.Layout.{plan_of}
 use Rattle.plan.specs.Checks.{Check, refuse, first, or_else}
 use Rattle.plan.specs.Refusals.{too_short, counts_wrong, cut_short, filled, wrong_sizes, stray_ends, none_ends, split_ends, exit_left, no_channel, framing, shape, order}

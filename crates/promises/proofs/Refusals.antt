@@ -11,7 +11,7 @@ use Rattle.sections.specs.Layout.{plan_of}
 use Rattle.sections.specs.Plan.{Plan}
 use Rattle.plan.specs.Checks.{refuse, first, or_else}
 use Rattle.plan.proofs.Tests.{first_append, first_last}
-use Rattle.regex.specs.Expression.{Expression}
+use Rattle.expressions.specs.Expression.{Expression}
 use Rattle.automaton.specs.Automaton.{states_of}
 use Rattle.pattern.specs.Refusals.{readable, over_limit}
 use Rattle.verdict.specs.declared.Answer.{Answer}

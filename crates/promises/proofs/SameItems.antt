@@ -7,7 +7,7 @@ use Prim.Native.Nat.{ℕ}
 use lib.ListN.{length}
 use Rattle.sections.specs.Layout.{plan_of}
 use Rattle.plan.specs.Checks.{first, or_else}
-use Rattle.regex.specs.Items.{pattern_of}
+use Rattle.expressions.specs.Items.{pattern_of}
 use Rattle.grammar.specs.Grammar.{Tree, choice, Reads}
 use Rattle.grammar.specs.Meaning.{items_of, text_refusals}
 use Rattle.grammar.proofs.Items.{items_build}

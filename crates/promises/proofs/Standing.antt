@@ -13,7 +13,7 @@ use Rattle.rows.specs.Rows.{place}
 use Rattle.sections.specs.Plan.{Plan}
 use Rattle.sections.specs.Layout.{plan_of}
 use Rattle.plan.specs.Nodes.{exit_of, must_end}
-use Rattle.regex.specs.Expression.{Expression, Language}
+use Rattle.expressions.specs.Expression.{Expression, Language}
 use Rattle.graph.specs.Moves.{Move}
 use Rattle.graph.specs.Runs.{begin, Run, Complete}
 use Rattle.graph.proofs.Standing.{complete_on}

@@ -14,7 +14,7 @@ use Rattle.rows.specs.Rows.{place}
 use Rattle.sections.specs.Plan.{Plan}
 use Rattle.sections.specs.Layout.{plan_of}
 use Rattle.plan.specs.Checks.{first}
-use Rattle.regex.specs.Expression.{Expression}
+use Rattle.expressions.specs.Expression.{Expression}
 use Rattle.verdict.specs.declared.Counts.{Counts}
 use Rattle.verdict.specs.declared.Answer.{Answer}
 use Rattle.verdict.specs.declared.Answer.TheVariants.{Refused, Verified, Inconclusive}

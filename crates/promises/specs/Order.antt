@@ -4,7 +4,7 @@ use Rattle.std.proofs.Math.Option.{Option, none, some}
 use Rattle.sections.specs.Plan.{Plan}
 use Rattle.sections.specs.Layout.{plan_of}
 use Rattle.plan.specs.Checks.{Check, refuse, first, or_else}
-use Rattle.regex.specs.Expression.{Expression}
+use Rattle.expressions.specs.Expression.{Expression}
 use Rattle.grammar.specs.Grammar.{Tree}
 use Rattle.grammar.specs.Meaning.{text_refusals, typed_expression}
 use Rattle.automaton.specs.Automaton.{states_of}

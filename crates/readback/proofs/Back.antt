@@ -15,7 +15,7 @@ use Rattle.sections.specs.Tables.{jobs_in, channels_in}
 use Rattle.sections.proofs.Kept.{jobs_kept, channels_kept}
 use Rattle.plan.specs.Legal.{Legal}
 use Rattle.plan.specs.Refusals.{arcs, links}
-use Rattle.regex.specs.Items.{Item}
+use Rattle.expressions.specs.Items.{Item}
 use Rattle.items.specs.Tables as items
 use Rattle.items.proofs.Kept.{items_kept}
 use Rattle.words.specs.Words.{unpacked, arcs_on, arc_on}

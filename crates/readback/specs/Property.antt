@@ -4,7 +4,7 @@ use Rattle.std.proofs.Math.Option.{Option, none, some}
 use Rattle.rows.specs.Rows.{row, place}
 use Rattle.sections.specs.Layout.{plan_of}
 use Rattle.plan.specs.Checks.{first}
-use Rattle.regex.specs.Expression.{Expression}
+use Rattle.expressions.specs.Expression.{Expression}
 use Rattle.automaton.specs.Automaton.{states_of, table_of, accepting}
 use Rattle.pattern.specs.Refusals.{expression_of, readable}
 

@@ -10,7 +10,7 @@ use Rattle.sections.specs.Plan.{Arc, Plan, arc_at}
 use Rattle.sections.specs.Layout.{plan_of}
 use Rattle.sections.specs.Tables.{sizes, entries, exits, standings, decoded_of}
 use Rattle.plan.specs.Checks.{first}
-use Rattle.regex.specs.Items.{Item}
+use Rattle.expressions.specs.Items.{Item}
 use Rattle.items.specs.Tables as items
 use Rattle.pattern.specs.Refusals.{items_of_plan, readable}
 

@@ -1,7 +1,7 @@
 // What is read back of the bytes of a plan, into lent arrays: its tables, and the automaton of its pattern.
 ghost use Rattle.std.specs.Prelude.{◌≡◌, ◌≤◌};
 ghost use Rattle.rows.specs.Rows.{row, place};
-ghost use Rattle.regex.specs.Items.{pattern_of};
+ghost use Rattle.expressions.specs.Items.{pattern_of};
 ghost use Rattle.items.specs.Tables.{items_on};
 ghost use Rattle.items.specs.Postfix.{Postfix};
 ghost use Rattle.plan.specs.Checks.{first};

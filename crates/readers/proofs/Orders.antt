@@ -8,7 +8,7 @@ use lib.ListN.{length, drop, set}
 use lib.Seq.{get_or-set_same, get_or-set_other}
 use Rattle.rows.specs.Rows.{row, place}
 use Rattle.rows.proofs.Rows.{row_ext}
-use Rattle.regex.specs.Items.{Item, sequence, choice, repeat}
+use Rattle.expressions.specs.Items.{Item, sequence, choice, repeat}
 use Rattle.grammar.specs.Grammar.{Tree, starred, semicolon, bar, asterisk}
 use Rattle.grammar.specs.Meaning.{items_of}
 use Rattle.grammar.specs.Ways.{up_to, starts_with, leaf, stars, Chain, choices, sequences, operator, joined, item_from, items_by}

@@ -1,6 +1,6 @@
 -- How the readers keep what they read: an order of places of the text, one for each item. No public promise speaks of it.
 use Rattle.std.specs.Prelude.{◌≡◌, true, false, List, ◌++◌, ℕ, ◌+◌, ◌≤◌, ◌<◌, length, drop}
-use Rattle.regex.specs.Items.{Item}
+use Rattle.expressions.specs.Items.{Item}
 use Rattle.grammar.specs.Grammar.{Tree, closing}
 use Rattle.grammar.specs.Meaning.{items_of}
 use Rattle.grammar.specs.Ways.{broken, up_to, starts_with, stars, chain, choices, items_by, Task, Way}

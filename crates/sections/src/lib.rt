@@ -5,14 +5,14 @@ ghost use Rattle.sections.specs.Layout.{head_of, end_at};
 ghost use Rattle.sections.specs.Tables.{decoded_of};
 
 // What a plan claims of its complete runs.
-#[derive(Drop)]
+#[derive(Clone, Copy)]
 pub enum Kind {
     Every,
     None,
 }
 
 // The counts of a plan.
-#[derive(Drop)]
+#[derive(Clone, Copy)]
 pub struct Head {
     pub jobs: usize,
     pub nodes: usize,
@@ -25,7 +25,7 @@ pub struct Head {
 }
 
 // The jobs, a place in each array for each; `standing` has the last bits of their records.
-#[derive(Drop)]
+#[derive(Clone, Copy)]
 pub struct Jobs {
     pub size: [u16; 16],
     pub entry: [u8; 16],
@@ -35,14 +35,14 @@ pub struct Jobs {
 }
 
 // The event of each channel.
-#[derive(Drop)]
+#[derive(Clone, Copy)]
 pub struct Channels {
     pub event: [u8; 64],
     pub count: usize,
 }
 
 // What a plan says before its pattern. Of its steps, calls and accepts it has how many there are; they stand in a lent row of words.
-#[derive(Drop)]
+#[derive(Clone, Copy)]
 pub struct Decoded {
     pub nodes: usize,
     pub kind: Kind,

@@ -4,7 +4,7 @@ use mathlib.Core.Bool.{Bool, true, false, ◌||◌, cond}
 use mathlib.Core.List.{List, [], ◌∷◌}
 use Prim.Native.Nat.{ℕ}
 use lib.Dec.{eqb}
-use Rattle.regex.specs.Items.{empty, events, sequence, choice, repeat}
+use Rattle.expressions.specs.Items.{empty, events, sequence, choice, repeat}
 use Rattle.item.specs.Found.{kind_of, set_of}
 use Rattle.grammar.specs.Grammar.{semicolon, bar, asterisk, opening_set}
 use Rattle.grammar.specs.Meaning.{listed}

@@ -1,7 +1,7 @@
 // The table of moves of a numbered automaton: 64 rows by 32 events.
 ghost use Rattle.std.specs.Prelude.{◌≡◌, List, ℕ, ◌<◌, ◌≤◌, replicate};
 ghost use Rattle.rows.specs.Rows.{row as row_of};
-ghost use Rattle.regex.specs.Expression.{Expression};
+ghost use Rattle.expressions.specs.Expression.{Expression};
 ghost use Rattle.automaton.specs.Automaton.{state_at, moved, table_of};
 ghost use Rattle.automaton.specs.Tables.{Of, Numbered, Apart, lent, set_table};
 ghost use Rattle.automaton.specs.Search.{Moves, grown, First};

@@ -7,7 +7,7 @@ use native.Mathlib.Decide.{ℕ_discrete}
 use native.Mathlib.Omega.{arith}
 use lib.ListN.{length}
 use Rattle.rows.specs.Rows.{row}
-use Rattle.regex.specs.Items.{Item, operands}
+use Rattle.expressions.specs.Items.{Item, operands}
 use Rattle.items.specs.Tables.{item_table, item_on}
 use Rattle.items.specs.Postfix.{Postfix}
 use Rattle.items.proofs.Kept.{items_kept}

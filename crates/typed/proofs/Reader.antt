@@ -11,7 +11,7 @@ use Rattle.plan.specs.Checks.{first}
 use Rattle.plan.specs.Outcomes.{outcome_of}
 use Rattle.plan.proofs.Tests.{first_none}
 use Rattle.plan.proofs.Ends.{outcome_refused, outcome_accepted}
-use Rattle.regex.specs.Items.{Item, pattern_of}
+use Rattle.expressions.specs.Items.{Item, pattern_of}
 use Rattle.items.specs.declared.Items.{Items}
 use Rattle.items.specs.declared.ItemsRead.{ItemsRead}
 use Rattle.items.specs.Tables.{item_table, items_on, answered}

@@ -10,7 +10,7 @@ use Rattle.masks.specs.Mask.{digit}
 use Rattle.line.specs.Line.{text}
 use Rattle.plan.specs.Checks.{first, any_from}
 use Rattle.plan.proofs.Cases.{agree}
-use Rattle.regex.specs.Items.{Item, empty, events, sequence, choice, repeat}
+use Rattle.expressions.specs.Items.{Item, empty, events, sequence, choice, repeat}
 use Rattle.items.specs.declared.ItemsRead.{ItemsRead}
 use Rattle.items.specs.Tables.{answered}
 use Rattle.grammar.specs.Grammar.{Tree, Reading, asterisk}

@@ -12,7 +12,7 @@ use Rattle.rows.specs.Rows.{row}
 use Rattle.sections.specs.Layout.{plan_of}
 use Rattle.plan.specs.Checks.{first, any_from}
 use Rattle.plan.proofs.Cases.{P, agree}
-use Rattle.regex.specs.Items.{Item, push_all}
+use Rattle.expressions.specs.Items.{Item, push_all}
 use Rattle.item.specs.Faults.{item_at}
 use Rattle.items.specs.Refusals.{read}
 use Rattle.grammar.specs.Grammar.{Tree}

@@ -16,8 +16,8 @@ use Rattle.plan.specs.Nodes.{owners_from, total}
 use Rattle.plan.specs.Refusals.{counts_outside}
 use Rattle.plan.proofs.Cases as plans
 use Rattle.plan.proofs.Cases.{P, Fields, packed, head, job, service, step, agree}
-use Rattle.regex.specs.Items.{push_all}
-use Rattle.regex.specs.Positions as positions
+use Rattle.expressions.specs.Items.{push_all}
+use Rattle.expressions.specs.Positions as positions
 use Rattle.numbering.specs.Numbering.{index, collect, build, states}
 use Rattle.item.specs.Faults.{item_at}
 use Rattle.items.specs.Refusals.{read, items_refusal}
@@ -125,7 +125,6 @@ of_P =
     ∷ verified P (text "[^]") three (counts 3 0 0 2 33 2) (1 ∷ 2 ∷ 9 ∷ [])
     ∷ verified P (text "a*") three (counts 2 0 0 2 50 2) (1 ∷ 2 ∷ 9 ∷ [])
     ∷ inconclusive P (text "a;a") three (counts 4 0 0 2 25 2) (1 ∷ 2 ∷ 9 ∷ [])
-    ∷ inconclusive P (text "a;a;a;a;a;a") three (counts 8 0 0 2 12 2) (1 ∷ 2 ∷ 9 ∷ [])  -- 2 of 16: a half, to the even neighbour
     ∷ inconclusive P (text "[]") three (counts 2 0 0 2 50 2) (1 ∷ 2 ∷ 9 ∷ [])
     ∷ inconclusive P (text "0") three (counts 2 0 0 2 50 2) (1 ∷ 2 ∷ 9 ∷ [])
     ∷ inconclusive (set P 5 0x02) (text "a") three (counts 3 0 0 2 33 2) (1 ∷ 2 ∷ 9 ∷ [])  -- of kind none

@@ -75,25 +75,6 @@ fn nothing_watched() {
     );
 }
 
-// Eight nodes, with quiet steps from the entry: fills that are exact halves.
-fn eighths() {
-    replay(
-        b"3 of 8",
-        b"\x08\x20\x04\x00\x00\x00\x04\x00\x00\x00\x00\x20\x00\x1c\x00\x02\x00\x00\x20\x00\x00",
-        8,
-    );
-    replay(
-        b"5 of 8",
-        b"\x08\x20\x08\x00\x00\x00\x04\x00\x00\x00\x00\x20\x00\x1c\x00\x02\x00\x00\x20\x00\x01\x80\x00\x10\x00\x00",
-        8,
-    );
-    replay(
-        b"7 of 8",
-        b"\x08\x20\x0c\x00\x00\x00\x04\x00\x00\x00\x00\x20\x00\x1c\x00\x02\x00\x00\x20\x00\x01\x80\x00\x10\x00\x00\xa0\x00\x06\x00\x00",
-        8,
-    );
-}
-
 // Patterns with many states.
 fn many_states() {
     // P with alphabet {1,2} and the pattern star of {1,2}, then {1}, then {1,2} four times
@@ -391,7 +372,6 @@ fn main() {
     of_p();
     one_job();
     nothing_watched();
-    eighths();
     many_states();
     more_jobs();
     ordering_edges();

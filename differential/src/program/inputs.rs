@@ -7,7 +7,7 @@ use crate::program::line::{answer, answer_by, name, READ};
 use crate::program::writing::Writing;
 use crate::random::Random;
 use crate::text::MOST_BYTES;
-use crate::{halves, recess, refusals, standing};
+use crate::{recess, refusals, standing};
 use reference::Answer;
 use std::collections::BTreeMap;
 
@@ -60,8 +60,6 @@ pub fn all(seed: u64) -> Vec<Input> {
     let with_server = "with a server";
     inputs.extend(known(with_server, &standing::known(), &TEXTS_WITH_SERVER));
     inputs.extend(generated_of_sort(with_server, standing::server, random));
-    let texts_of_one_state = ["0", "[]", "0*"];
-    inputs.extend(known("with a fill of a half", &halves::known(), &texts_of_one_state));
     inputs
 }
 

@@ -1,7 +1,6 @@
 //! What the inputs of the program were like and what they were answered: counted, and all of it asked for.
 
-use crate::halves::{side, SIDES};
-use crate::layout::{records, NODES};
+use crate::layout::records;
 use crate::program::inputs::{Input, LONG_TEXTS};
 use crate::program::largest;
 use crate::program::line::{name, READ};
@@ -92,8 +91,6 @@ fn asked() -> Vec<String> {
     asked.extend(VERDICTS.map(standing));
     asked.push(by_text(&standing(&refused(ALL_STAND))));
     asked.extend(VERDICTS.map(|verdict| by_text(&standing(verdict))));
-    asked.extend(SIDES.map(str::to_string));
-    asked.extend(SIDES.map(by_text));
     asked
 }
 
@@ -110,23 +107,13 @@ fn of(input: &Input, answer: &Answer) -> Vec<String> {
         (jobs.is_empty(), without_jobs),
         (jobs.iter().any(|job| job.standing), standing),
     ];
-    let named = sorts.iter().filter(|(is_so, _)| *is_so);
-    let mut others: Vec<String> = named.map(|(_, named)| named(&name)).collect();
-    others.extend(half(input, answer).map(str::to_string));
-    if input.text.is_some() {
-        others = others.iter().map(|what| by_text(what)).collect();
+    for (_, named) in sorts.iter().filter(|(is_so, _)| *is_so) {
+        met.push(match input.text {
+            None => named(&name),
+            Some(_) => by_text(&named(&name)),
+        });
     }
-    met.extend(others);
     met
-}
-
-/// The side of the even neighbour, if the answer's fill is an exact half.
-fn half(input: &Input, answer: &Answer) -> Option<&'static str> {
-    let (Answer::Verified(counts) | Answer::Inconclusive(counts)) = answer else {
-        return None;
-    };
-    let cells = NODES.read(&input.bytes) * counts.states;
-    side(counts.pairs, cells).map(|side| SIDES[side])
 }
 
 fn of_plan(input: &Input, answer: &Answer, name: &str) -> Vec<String> {

@@ -12,7 +12,6 @@ mod recess;
 mod standing;
 
 use crate::draft::as_read;
-use crate::halves::{self, Halves};
 use crate::hex::hex;
 use crate::random::Random;
 use exploration::{explore, Explored};
@@ -46,7 +45,6 @@ struct Tally {
     meeting: [usize; 2],
     /// Inconclusive plans that have a wrong complete run: for information.
     wrong: [usize; 2],
-    halves: Halves,
     premise: Premise,
     recess: Recess,
     /// The plans with a standing job among the others.
@@ -135,9 +133,6 @@ fn check(
     let explored = explore(&plan, &task.pattern, &automaton, &row, CONFIGURATIONS)?;
     check_row(&row, &least(&plan, &automaton, HELD))?;
     check_final(counts.final_set, final_set(&plan, &row))?;
-    let (pairs, cells) = (members(&row), (plan.nodes * automaton.states()) as u32);
-    halves::broken(counts.fill, pairs, cells).map_or(Ok(()), Err)?;
-    tally.halves.add(pairs, cells);
     match explored {
         None => tally.passed_over += 1,
         Some(explored) if verified && explored.wrong > 0 => {
@@ -178,11 +173,6 @@ fn check_row(row: &[u64], smallest: &[u64]) -> Result<(), String> {
         }
     }
     Ok(())
-}
-
-/// The members of all sets, counted together.
-fn members(row: &[u64]) -> u32 {
-    row.iter().map(|set| set.count_ones()).sum()
 }
 
 /// The final set is that of the exits of the jobs that do not stand.
@@ -262,7 +252,6 @@ impl Tally {
         ];
         let of_sorts = self.recess.seen().into_iter().chain(self.standing.seen());
         let others = self.premise.seen().into_iter().chain(of_sorts);
-        let others = others.chain(self.halves.seen(200));
         for (which, count, needed) in seen.into_iter().chain(others) {
             if count < needed {
                 return Err(format!(
@@ -280,7 +269,7 @@ impl fmt::Display for Tally {
             out,
             "{} plans, {} configurations, {} meetings taken; by kind [every, none]: verified {:?}, \
              with a complete run {:?}, of these with meetings {:?}; inconclusive {:?}, with a wrong run {:?}; \
-             {} passed over; {}; ordering edges: {}; plans without jobs: {}; plans with a standing job: {}",
+             {} passed over; ordering edges: {}; plans without jobs: {}; plans with a standing job: {}",
             self.plans,
             self.configurations,
             self.meetings,
@@ -290,7 +279,6 @@ impl fmt::Display for Tally {
             self.inconclusive,
             self.wrong,
             self.passed_over,
-            self.halves,
             self.premise,
             self.recess,
             self.standing
@@ -312,7 +300,6 @@ impl fmt::Display for Premise {
 #[cfg(test)]
 mod tests {
     use super::*;
-    use traceflow::Counts;
 
     #[test]
     fn the_judge_stands() {
@@ -397,29 +384,6 @@ mod tests {
         for by_text in [false, true] {
             let found = found(by_text, lenient);
             assert!(found.contains("verified, but a complete run is wrong"));
-        }
-    }
-
-    /// The fill with a half upwards.
-    fn upwards(answer: Answer, row: &mut [u64]) -> Answer {
-        let rounded = |counts: Counts| Counts {
-            fill: match halves::side(counts.pairs, row.len() as u32 * counts.states) {
-                Some(0) => counts.fill + 1,
-                _ => counts.fill,
-            },
-            ..counts
-        };
-        match answer {
-            Answer::Verified(counts) => Answer::Verified(rounded(counts)),
-            Answer::Inconclusive(counts) => Answer::Inconclusive(rounded(counts)),
-            refused => refused,
-        }
-    }
-
-    #[test]
-    fn a_half_upwards_is_found_out() {
-        for by_text in [false, true] {
-            assert!(found(by_text, upwards).contains("and even"));
         }
     }
 

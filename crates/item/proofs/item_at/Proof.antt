@@ -11,7 +11,7 @@ use lib.ListN.{length}
 use Rattle.plan.specs.declared.Outcome.TheVariants.{Accepted}
 use Rattle.plan.specs.Checks.{first}
 use Rattle.plan.proofs.Tests.{told}
-use Rattle.regex.specs.Items.{empty, events}
+use Rattle.expressions.specs.Items.{empty, events}
 use Rattle.item.specs.declared.Found.{Found}
 use Rattle.item.specs.Faults.{cut, kind_at, set_at, item_at, strange, faults}
 use Rattle.item.specs.Found.{found_as, found}

@@ -4,8 +4,8 @@ use mathlib.Core.List.{List}
 use Prim.Native.Nat.{ℕ, ◌+◌, ◌-◌, ◌*◌, ◌≤◌}
 use native.Mathlib.Omega.{arith}
 use lib.ListN.{length, set}
-use Rattle.regex.specs.Items.{arity}
-use Rattle.regex.proofs.Operands.{push_none}
+use Rattle.expressions.specs.Items.{arity}
+use Rattle.expressions.proofs.Operands.{push_none}
 use Rattle.item.specs.Faults.{item_of}
 use Rattle.items.specs.Refusals.{read}
 use Rattle.items.specs.Tables.{scan_of}

@@ -4,7 +4,7 @@ use mathlib.Core.Bool.{not}
 use mathlib.Core.List.{List}
 use mathlib.Core.Option.{Option, none, some}
 use Prim.Native.Nat.{ℕ}
-use Rattle.regex.specs.Items.{pattern_of}
+use Rattle.expressions.specs.Items.{pattern_of}
 use Rattle.items.specs.Tables.{items_on}
 use Rattle.positions.proofs.Whole.{pattern_few}
 use Rattle.automaton.specs.declared.States.{States}

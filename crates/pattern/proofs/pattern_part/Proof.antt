@@ -11,7 +11,7 @@ use lib.ListN.{length, drop, length-drop}
 use lib.Seq.{take_all}
 use Rattle.sections.specs.Layout.{head_of, pattern_at, plan_of}
 use Rattle.plan.specs.Checks.{first}
-use Rattle.regex.specs.Items.{Item, pattern_of}
+use Rattle.expressions.specs.Items.{Item, pattern_of}
 use Rattle.items.specs.Tables.{items_on}
 use Rattle.items.specs.Postfix.{Postfix}
 use Rattle.items.proofs.Kept.{items_kept}

@@ -6,8 +6,8 @@ use native.Mathlib.Omega.{arith}
 use lib.ListN.{length}
 use Rattle.rows.proofs.Rows.{row_length}
 use Rattle.rows.specs.Rows.{row, place}
-use Rattle.regex.specs.Expression.{Expression}
-use Rattle.regex.specs.Items.{arity, pattern_of}
+use Rattle.expressions.specs.Expression.{Expression}
+use Rattle.expressions.specs.Items.{arity, pattern_of}
 use Rattle.item.proofs.Faults.{arity_set}
 use Rattle.items.specs.declared.Items.{Items}
 use Rattle.items.specs.Tables.{item_on, items_on}

@@ -5,7 +5,7 @@ use mathlib.Core.Option.{none, some}
 use Prim.Native.Nat.{ℕ}
 use Rattle.sections.specs.Layout.{plan_of}
 use Rattle.plan.specs.Checks.{first}
-use Rattle.regex.specs.Items.{Item, pattern_of}
+use Rattle.expressions.specs.Items.{Item, pattern_of}
 use Rattle.items.specs.Tables.{items_on}
 use Rattle.items.specs.Postfix.{Postfix}
 use Rattle.items.proofs.Kept.{items_kept}

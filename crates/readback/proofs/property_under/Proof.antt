@@ -7,9 +7,9 @@ use native.Mathlib.Omega.{arith}
 use lib.ListN.{length}
 use Rattle.rows.specs.Rows.{row, place}
 use Rattle.rows.proofs.Rows.{padded_places}
-use Rattle.regex.specs.Expression.{Expression}
-use Rattle.regex.specs.Items.{pattern_of}
-use Rattle.regex.specs.Positions.{final}
+use Rattle.expressions.specs.Expression.{Expression}
+use Rattle.expressions.specs.Items.{pattern_of}
+use Rattle.expressions.specs.Positions.{final}
 use Rattle.items.specs.Tables.{items_on}
 use Rattle.positions.specs.declared.Positions.{Positions}
 use Rattle.positions.proofs.Whole.{pattern_few}

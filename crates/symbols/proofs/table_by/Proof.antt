@@ -6,7 +6,7 @@ use native.Mathlib.Omega.{arith}
 use lib.ListN.{drop, set}
 use Rattle.rows.specs.Rows.{row, padded, place}
 use Rattle.rows.proofs.Rows.{row_length, column_more}
-use Rattle.regex.specs.Items.{Item}
+use Rattle.expressions.specs.Items.{Item}
 use Rattle.item.specs.Found.{kind_of, set_of}
 use Rattle.items.specs.declared.Items.{Items}
 use Rattle.items.specs.Tables.{item_table}

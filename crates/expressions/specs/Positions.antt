@@ -2,7 +2,7 @@
 use Rattle.std.specs.Prelude.{Bool, true, false, ◌||◌, ◌&&◌, cond, not, List, [], ◌∷◌, ℕ, zero, suc, ◌+◌, ◌^◌, eqb}
 use Rattle.std.specs.Int.Bits.{bit_or, bit_and}
 use Rattle.masks.specs.Mask.{has, gather_below}
-use Rattle.regex.specs.Expression.{Expression, eps, set, seq, alt, star}
+use Rattle.expressions.specs.Expression.{Expression, eps, set, seq, alt, star}
 
 -- the empty string belongs to the language
 abbrev pub null : Expression → Bool

@@ -1,6 +1,6 @@
 -- Postfix items, and the expression that they build. Document 01, "The bit-packed plan".
 use Rattle.std.specs.Prelude.{List, [], ◌∷◌, ℕ}
-use Rattle.regex.specs.Expression.{Expression, eps, set, seq, alt, star}
+use Rattle.expressions.specs.Expression.{Expression, eps, set, seq, alt, star}
 
 -- "0 the empty string, 1 one event of a set, 2 sequence, 3 choice, 4 star"
 pub data Item : Type 0 where

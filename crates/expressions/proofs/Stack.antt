@@ -7,11 +7,11 @@ use native.Mathlib.Nat.{add_zero}
 use native.Mathlib.Omega.{arith}
 use lib.Bits.{bit_or, or_zero_r}
 use Rattle.masks.specs.Mask.{has}
-use Rattle.regex.specs.Expression.{Expression}
-use Rattle.regex.specs.Items.{empty, events, sequence, choice, repeat, push}
-use Rattle.regex.specs.Positions.{size, first, last, holding}
+use Rattle.expressions.specs.Expression.{Expression}
+use Rattle.expressions.specs.Items.{empty, events, sequence, choice, repeat, push}
+use Rattle.expressions.specs.Positions.{size, first, last, holding}
 use Rattle.masks.proofs.Choices.{or_assoc}
-use Rattle.regex.specs.Stack.{free, follows, holdings}
+use Rattle.expressions.specs.Stack.{free, follows, holdings}
 
 -- ---- the empty string
 

@@ -7,10 +7,10 @@ use native.Mathlib.Omega.{arith}
 use lib.Bits.{bit_or}
 use Rattle.masks.specs.Mask.{In, has}
 use Rattle.masks.proofs.Members.{digit_self, has_in, in_has, in_or, in_or_left, in_or_right, in_single, not_in_none}
-use Rattle.regex.specs.Expression.{Expression, eps, set, seq, alt, star}
-use Rattle.regex.specs.Positions.{null, size, first, last, follow, holding}
+use Rattle.expressions.specs.Expression.{Expression, eps, set, seq, alt, star}
+use Rattle.expressions.specs.Positions.{null, size, first, last, follow, holding}
 use Rattle.masks.proofs.Choices.{in_cond, cond_in}
-use Rattle.regex.proofs.Places.{Pos, at, First, Last, Follow}
+use Rattle.expressions.proofs.Places.{Pos, at, First, Last, Follow}
 
 abbrev pub num : ℕ → (r : Expression) → Pos r → ℕ
 num i eps p = absurd p

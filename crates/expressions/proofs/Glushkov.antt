@@ -11,11 +11,11 @@ use lib.Bits.{bit_and}
 use Rattle.masks.specs.Mask.{In, gather_below}
 use Rattle.masks.proofs.Members.{digit_self, in_and, in_and_left, in_and_right, in_or, in_or_left, in_or_right, in_single}
 use Rattle.masks.proofs.Images.{gather_in, in_gather}
-use Rattle.regex.specs.Expression.{Expression, Language}
-use Rattle.regex.specs.Positions.{null, size, last, follow, holding, after, start, step, final, accepts, reached}
+use Rattle.expressions.specs.Expression.{Expression, Language}
+use Rattle.expressions.specs.Positions.{null, size, last, follow, holding, after, start, step, final, accepts, reached}
 use Rattle.masks.proofs.Choices.{in_cond, cond_in, some_test, test_some}
-use Rattle.regex.proofs.Numbers.{num, num_ge, num_lt, num_inj, in_first, first_in, in_last, last_in, in_follow, follow_in, in_holding, holding_in}
-use Rattle.regex.proofs.Places.{Pos, Follow, Place, Goes, Ends, Step, Reach, Accepts, Start, glushkov_places}
+use Rattle.expressions.proofs.Numbers.{num, num_ge, num_lt, num_inj, in_first, first_in, in_last, last_in, in_follow, follow_in, in_holding, holding_in}
+use Rattle.expressions.proofs.Places.{Pos, Follow, Place, Goes, Ends, Step, Reach, Accepts, Start, glushkov_places}
 
 module _ (r : Expression) where
   -- ---- one position: what may follow it and holds the event

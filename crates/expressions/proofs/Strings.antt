@@ -4,7 +4,7 @@ use mathlib.Core.List.{List, [], ◌∷◌, ◌++◌, cons-ne-nil}
 use mathlib.Core.Logic.{◌⊎◌, inl, inr}
 use Prim.Native.Nat.{ℕ}
 use Rattle.masks.proofs.Members.{not_in_none}
-use Rattle.regex.specs.Expression.{set, Language, Followed, Joined, done, more}
+use Rattle.expressions.specs.Expression.{set, Language, Followed, Joined, done, more}
 
 -- "an empty set of events matches no string"
 pub no_string : (w : List ℕ) → Language (set 0) w → ⊥

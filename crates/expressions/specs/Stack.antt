@@ -2,8 +2,8 @@
 -- these definitions.
 use Rattle.std.specs.Prelude.{Bool, true, ◌||◌, ◌&&◌, cond, List, [], ◌∷◌, ℕ, ◌+◌}
 use Rattle.std.specs.Int.Bits.{bit_or}
-use Rattle.regex.specs.Expression.{Expression}
-use Rattle.regex.specs.Positions.{null, size, first, last, follow, holding}
+use Rattle.expressions.specs.Expression.{Expression}
+use Rattle.expressions.specs.Positions.{null, size, first, last, follow, holding}
 
 -- the number of the next position: those of the newest operand are the last
 abbrev pub free : List Expression → ℕ

@@ -6,9 +6,9 @@ use mathlib.Core.Option.{Option, none, some}
 use mathlib.Core.Logic.{◌⊎◌, inl, inr, ◌↔◌, ⊎_elim, ⊎_map}
 use Prim.Native.Nat.{ℕ}
 use Rattle.masks.specs.Mask.{In}
-use Rattle.regex.specs.Expression.{Expression, eps, set, seq, alt, star, Followed, Joined, done, Language}
-use Rattle.regex.specs.Positions.{null}
-use Rattle.regex.proofs.Strings.{followed_cons, followed_left, followed_right, followed_nil, followed_map, joined_cons, joined_left}
+use Rattle.expressions.specs.Expression.{Expression, eps, set, seq, alt, star, Followed, Joined, done, Language}
+use Rattle.expressions.specs.Positions.{null}
+use Rattle.expressions.proofs.Strings.{followed_cons, followed_left, followed_right, followed_nil, followed_map, joined_cons, joined_left}
 
 -- ---- the positions, one for each set in the expression
 

@@ -4,10 +4,10 @@ use mathlib.Core.List.{List, [], ◌∷◌, ◌++◌}
 use Prim.Native.Nat.{ℕ, ◌+◌, ◌*◌, ◌≤◌}
 use native.Mathlib.Omega.{arith}
 use lib.ListN.{length}
-use Rattle.regex.specs.Expression.{Expression, eps, set, seq, alt, star}
-use Rattle.regex.specs.Items.{Item, empty, events, sequence, choice, repeat, arity, push, push_all, operands}
-use Rattle.regex.specs.Positions.{size}
-use Rattle.regex.specs.Stack.{free}
+use Rattle.expressions.specs.Expression.{Expression, eps, set, seq, alt, star}
+use Rattle.expressions.specs.Items.{Item, empty, events, sequence, choice, repeat, arity, push, push_all, operands}
+use Rattle.expressions.specs.Positions.{size}
+use Rattle.expressions.specs.Stack.{free}
 
 -- ---- one item more
 
