@@ -14,32 +14,32 @@ use Rattle.answers.specs.Answers.{values_on, unless_short}
 use Rattle.answers.proofs.answer_on.Statement.{statement}
 use Rattle.answers.proofs.answer_on.Tie as tie
 
-final-set-requires : tie.Need-final-set-requires
-final-set-requires c κs = search rules
+final_set-ends-requires : tie.Need-final_set-ends-requires
+final_set-ends-requires c κs = search rules
 
-cast-t15 : tie.Need-overflow-cast-t15
-cast-t15 c = search rules
+overflow_cast-counts : tie.Need-overflow_cast-counts
+overflow_cast-counts c = search rules
 
-cast-fill : tie.Need-overflow-cast-fill
-cast-fill c = search rules
+overflow_cast-pairs : tie.Need-overflow_cast-pairs
+overflow_cast-pairs c = search rules
 
-cast-fill-2 : tie.Need-overflow-cast-fill-2
-cast-fill-2 c = search rules
+overflow_cast-nodes : tie.Need-overflow_cast-nodes
+overflow_cast-nodes c = search rules
 
-cast-fill-3 : tie.Need-overflow-cast-fill-3
-cast-fill-3 c = search rules
+overflow_cast-states : tie.Need-overflow_cast-states
+overflow_cast-states c = search rules
 
 fill-requires : tie.Need-fill-requires
 fill-requires c κs = search rules
 
-is-verified-requires : tie.Need-is-verified-requires
-is-verified-requires c κs = search rules
+is_verified-verified-requires : tie.Need-is_verified-verified-requires
+is_verified-verified-requires c κs = search rules
 
-verdict-of-requires : tie.Need-verdict-of-requires
-verdict-of-requires c κs = search rules
+verdict_of-answer-requires : tie.Need-verdict_of-answer-requires
+verdict_of-answer-requires c κs = search rules
 
-hand-over-requires : tie.Need-hand-over-requires
-hand-over-requires c κs = search rules
+hand_over-requires : tie.Need-hand_over-requires
+hand_over-requires c κs = search rules
 
 -- the values, and the verdict on them
 abbrev values : tie.Start → Counts
@@ -48,54 +48,41 @@ values s = values_on s.args.masks.now s.args.jobs s.args.pairs s.args.nodes s.ar
 abbrev said : tie.Start → Answer
 said s = verdict (verified s.args.kind (values s).ends s.args.accepting) (values s)
 
-found : (c : tie.After-verdict-of) → c.verdict-of.result ≡ said c.before.before.before.before.before
+found : (c : tie.After-verdict_of-answer) → c.verdict_of-answer.result ≡ said c.before.before.before.before.before
 found c =
     let s = c.before.before.before.before.before in
     let ended = c.before.before.before in
-    let suits = c.before.is-verified.ensures ∙ ap (λ (n : ℕ). verified s.args.kind n s.args.accepting) ended.final-set.ensures in
-    let counts : ◌≡◌ {A = Counts} (record { states = s.args.states; meetings = s.args.meetings; ordering = s.args.ordering; pairs = s.args.pairs; fill = c.before.before.fill.result; ends = ended.final-set.result }) (values s) = λ i. record { states = s.args.states; meetings = s.args.meetings; ordering = s.args.ordering; pairs = s.args.pairs; fill = c.before.before.fill.ensures i; ends = ended.final-set.ensures i } in
-    c.verdict-of.ensures ∙ (λ i. verdict (suits i) (counts i))
+    let suits = c.before.is_verified-verified.ensures ∙ ap (λ (n : ℕ). verified s.args.kind n s.args.accepting) ended.final_set-ends.ensures in
+    let counts : ◌≡◌ {A = Counts} (record { states = s.args.states; meetings = s.args.meetings; ordering = s.args.ordering; pairs = s.args.pairs; fill = c.before.before.fill.result; ends = ended.final_set-ends.result }) (values s) = λ i. record { states = s.args.states; meetings = s.args.meetings; ordering = s.args.ordering; pairs = s.args.pairs; fill = c.before.before.fill.ensures i; ends = ended.final_set-ends.ensures i } in
+    c.verdict_of-answer.ensures ∙ (λ i. verdict (suits i) (counts i))
 
 -- whether the row has places enough
-module _ (c : tie.After-hand-over) where
+module _ (c : tie.After-hand_over) where
   abbrev start : tie.Start
   start = c.before.before.before.before.before.before.before
 
-  row_is : c.hand-over.new.0 ≡ handed (leb start.args.nodes (length start.args.row.now)) start.args.nodes start.args.masks.now start.args.row.now
-  row_is = c.hand-over.ensures.1 ∙ ap (λ (b : Bool). handed b start.args.nodes start.args.masks.now start.args.row.now) c.hand-over.ensures.0
+  row_is : c.hand_over.new.0 ≡ handed (leb start.args.nodes (length start.args.row.now)) start.args.nodes start.args.masks.now start.args.row.now
+  row_is = c.hand_over.ensures.1 ∙ ap (λ (b : Bool). handed b start.args.nodes start.args.masks.now start.args.row.now) c.hand_over.ensures.0
 
-same_length : tie.Need-same-length
-same_length c = search rules
+shape_of-row-then-hand_over : tie.Need-shape_of-row-then-hand_over
+shape_of-row-then-hand_over c = search rules
 
-returns : tie.Need-returns
-returns c =
+returns-then-hand_over : tie.Need-returns-then-hand_over
+returns-then-hand_over c =
     let over = c.before.before.before in
     let s = start over in
-    (found over.before.before ∙ ap (λ (b : Bool). unless_short b (said s)) (sym c.if1.true ∙ over.hand-over.ensures.0), row_is over)
+    (found over.before.before ∙ ap (λ (b : Bool). unless_short b (said s)) (sym c.if-hand_over.true ∙ over.hand_over.ensures.0), row_is over)
 
-same-length-2 : tie.Need-same-length-2
-same-length-2 c = search rules
+shape_of-row-else-hand_over : tie.Need-shape_of-row-else-hand_over
+shape_of-row-else-hand_over c = search rules
 
-returns-2 : tie.Need-returns-2
-returns-2 c =
+returns-else-hand_over : tie.Need-returns-else-hand_over
+returns-else-hand_over c =
     let over = c.before.before.before in
     let s = start over in
-    (ap (λ (b : Bool). unless_short b (said s)) (sym c.if1.false ∙ over.hand-over.ensures.0), row_is over)
+    (ap (λ (b : Bool). unless_short b (said s)) (sym c.if-hand_over.false ∙ over.hand_over.ensures.0), row_is over)
 
-pub answer-on-spec : {M : Type 1} → statement M
-answer-on-spec =
+pub answer_on_spec : {M : Type 1} → statement M
+answer_on_spec =
     tie.close
-    (tie.spec
-    final-set-requires
-    cast-t15
-    cast-fill
-    cast-fill-2
-    cast-fill-3
-    fill-requires
-    is-verified-requires
-    verdict-of-requires
-    hand-over-requires
-    same_length
-    returns
-    same-length-2
-    returns-2)
+    (tie.spec final_set-ends-requires overflow_cast-counts overflow_cast-pairs overflow_cast-nodes overflow_cast-states fill-requires is_verified-verified-requires verdict_of-answer-requires hand_over-requires shape_of-row-then-hand_over returns-then-hand_over shape_of-row-else-hand_over returns-else-hand_over)

@@ -17,50 +17,41 @@ use Rattle.ends.proofs.all_stand.Tie as tie
 abbrev ends : Job → Bool
 ends b = not (stands b.standing)
 
-abbrev invariant-loop : tie.invariant-loop
-invariant-loop jobs count ending₀ i₀ ending i = (i ≤ count) × (ending ≡ any ends (row i (job_in jobs)))
+abbrev invariant-loop-i : tie.invariant-loop-i
+invariant-loop-i jobs count ending₀ i₀ ending i = (i ≤ count) × (ending ≡ any ends (row i (job_in jobs)))
 
-abbrev decreases-loop : tie.decreases-loop
-decreases-loop jobs count ending₀ i₀ ending i = count - i
+abbrev decreases-loop-i : tie.decreases-loop-i
+decreases-loop-i jobs count ending₀ i₀ ending i = count - i
 
-loop-holds : tie.Need-loop-init invariant-loop decreases-loop
-loop-holds c = (omega arith, sym (any_row_none (λ (k : ℕ). ends) (job_in c.args.t1)))
+loop-i-init : tie.Need-loop-i-init invariant-loop-i decreases-loop-i
+loop-i-init c = (omega arith, sym (any_row_none (λ (k : ℕ). ends) (job_in c.args.t1)))
 
-element-copy-out-is-standing : tie.Need-element-copy-out-is-standing invariant-loop decreases-loop
-element-copy-out-is-standing c = omega arith
+bounds-jobs-i : tie.Need-bounds-jobs-i invariant-loop-i decreases-loop-i
+bounds-jobs-i c = omega arith
 
-is-standing-requires : tie.Need-is-standing-requires invariant-loop decreases-loop
-is-standing-requires c κs = tt
+is_standing-standing-requires : tie.Need-is_standing-standing-requires invariant-loop-i decreases-loop-i
+is_standing-standing-requires c κs = tt
 
-add-i : tie.Need-overflow-add-i invariant-loop decreases-loop
-add-i c = omega arith
+overflow_add-i : tie.Need-overflow_add-i invariant-loop-i decreases-loop-i
+overflow_add-i c = omega arith
 
-loop-less : tie.Need-loop-smaller invariant-loop decreases-loop
-loop-less c = omega arith
+loop-i-smaller : tie.Need-loop-i-smaller invariant-loop-i decreases-loop-i
+loop-i-smaller c = omega arith
 
-loop-again : tie.Need-loop-preserved invariant-loop decreases-loop
-loop-again c =
-    let loop = c.before.before.before.loop in
+loop-i-preserved : tie.Need-loop-i-preserved invariant-loop-i decreases-loop-i
+loop-i-preserved c =
+    let loop = c.before.before.before.loop-i in
     let jobs = c.before.before.before.before.args.t1 in
-    (omega arith, any_turn (λ (k : ℕ). ends) (job_in jobs) loop.i loop.ending _ loop.invariant.1 (ap not c.is-standing.ensures))
+    (omega arith, any_turn (λ (k : ℕ). ends) (job_in jobs) loop.i loop.ending _ loop.invariant.1 (ap not c.is_standing-standing.ensures))
 
-returns : tie.Need-returns invariant-loop decreases-loop
+returns : tie.Need-returns invariant-loop-i decreases-loop-i
 returns c =
     let jobs = c.before.before.args.t1 in
-    let e : c.before.loop.i ≡ c.before.before.args.t1.count = omega arith in
-    let passed = c.before.loop.invariant.1 ∙ ap (λ (n : ℕ). any ends (row n (job_in jobs))) e in
+    let e : c.before.loop-i.i ≡ c.before.before.args.t1.count = omega arith in
+    let passed = c.before.loop-i.invariant.1 ∙ ap (λ (n : ℕ). any ends (row n (job_in jobs))) e in
     λ k. ltb 0 (sym (row_length (job_in jobs) jobs.count) k) && not (passed k)
 
-pub all-stand-spec : {M : Type 1} → statement M
-all-stand-spec =
+pub all_stand_spec : {M : Type 1} → statement M
+all_stand_spec =
     tie.close
-    (tie.spec
-    invariant-loop
-    decreases-loop
-    loop-holds
-    element-copy-out-is-standing
-    is-standing-requires
-    add-i
-    loop-less
-    loop-again
-    returns)
+    (tie.spec invariant-loop-i decreases-loop-i loop-i-init bounds-jobs-i is_standing-standing-requires overflow_add-i loop-i-smaller loop-i-preserved returns)

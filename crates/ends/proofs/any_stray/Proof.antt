@@ -11,89 +11,72 @@ use Rattle.ends.proofs.Turns.{stray_read}
 use Rattle.ends.proofs.any_stray.Statement.{statement}
 use Rattle.ends.proofs.any_stray.Tie as tie
 
-abbrev invariant-loop : tie.invariant-loop
-invariant-loop nodes owner jobs count found₀ i₀ found i = (i ≤ count) × (found ≡ any_numbered (stray nodes (place owner)) (row i (job_in jobs)))
+abbrev invariant-loop-i : tie.invariant-loop-i
+invariant-loop-i nodes owner jobs count found₀ i₀ found i = (i ≤ count) × (found ≡ any_numbered (stray nodes (place owner)) (row i (job_in jobs)))
 
-abbrev decreases-loop : tie.decreases-loop
-decreases-loop nodes owner jobs count found₀ i₀ found i = count - i
+abbrev decreases-loop-i : tie.decreases-loop-i
+decreases-loop-i nodes owner jobs count found₀ i₀ found i = count - i
 
-loop-holds : tie.Need-loop-init invariant-loop decreases-loop
-loop-holds c = (omega arith, sym (any_row_none (stray c.args.nodes (place c.args.owner.now)) (job_in c.args.t3)))
+loop-i-init : tie.Need-loop-i-init invariant-loop-i decreases-loop-i
+loop-i-init c = (omega arith, sym (any_row_none (stray c.args.nodes (place c.args.owner.now)) (job_in c.args.t3)))
 
-element-copy-out-byte : tie.Need-element-copy-out-byte invariant-loop decreases-loop
-element-copy-out-byte c = omega arith
+bounds-jobs-i : tie.Need-bounds-jobs-i invariant-loop-i decreases-loop-i
+bounds-jobs-i c = omega arith
 
-byte-requires : tie.Need-byte-requires invariant-loop decreases-loop
-byte-requires c κs = tt
+byte-entry-requires : tie.Need-byte-entry-requires invariant-loop-i decreases-loop-i
+byte-entry-requires c κs = tt
 
-element-copy-out-byte-2 : tie.Need-element-copy-out-byte-2 invariant-loop decreases-loop
-element-copy-out-byte-2 c = omega arith
+bounds-jobs-i-in-loop-i : tie.Need-bounds-jobs-i-in-loop-i invariant-loop-i decreases-loop-i
+bounds-jobs-i-in-loop-i c = omega arith
 
-byte-requires-2 : tie.Need-byte-requires-2 invariant-loop decreases-loop
-byte-requires-2 c κs = tt
+byte-exit-requires : tie.Need-byte-exit-requires invariant-loop-i decreases-loop-i
+byte-exit-requires c κs = tt
 
-element-copy-out-byte-3 : tie.Need-element-copy-out-byte-3 invariant-loop decreases-loop
-element-copy-out-byte-3 c = c.before.before.byte.ensures.1
+bounds-owner-entry : tie.Need-bounds-owner-entry invariant-loop-i decreases-loop-i
+bounds-owner-entry c = c.before.before.byte-entry.ensures.1
 
-byte-requires-3 : tie.Need-byte-requires-3 invariant-loop decreases-loop
-byte-requires-3 c κs = tt
+byte-entry_job-requires : tie.Need-byte-entry_job-requires invariant-loop-i decreases-loop-i
+byte-entry_job-requires c κs = tt
 
-element-copy-out-byte-4 : tie.Need-element-copy-out-byte-4 invariant-loop decreases-loop
-element-copy-out-byte-4 c = c.before.before.byte2.ensures.1
+bounds-owner-exit : tie.Need-bounds-owner-exit invariant-loop-i decreases-loop-i
+bounds-owner-exit c = c.before.before.byte-exit.ensures.1
 
-byte-requires-4 : tie.Need-byte-requires-4 invariant-loop decreases-loop
-byte-requires-4 c κs = tt
+byte-exit_job-requires : tie.Need-byte-exit_job-requires invariant-loop-i decreases-loop-i
+byte-exit_job-requires c κs = tt
 
-element-copy-out-is-standing : tie.Need-element-copy-out-is-standing invariant-loop decreases-loop
-element-copy-out-is-standing c = omega arith
+bounds-jobs-i-in-loop-i-2 : tie.Need-bounds-jobs-i-in-loop-i-2 invariant-loop-i decreases-loop-i
+bounds-jobs-i-in-loop-i-2 c = omega arith
 
-is-standing-requires : tie.Need-is-standing-requires invariant-loop decreases-loop
-is-standing-requires c κs = tt
+is_standing-standing-requires : tie.Need-is_standing-standing-requires invariant-loop-i decreases-loop-i
+is_standing-standing-requires c κs = tt
 
-add-i : tie.Need-overflow-add-i invariant-loop decreases-loop
-add-i c = omega arith
+overflow_add-i : tie.Need-overflow_add-i invariant-loop-i decreases-loop-i
+overflow_add-i c = omega arith
 
-loop-less : tie.Need-loop-smaller invariant-loop decreases-loop
-loop-less c = omega arith
+loop-i-smaller : tie.Need-loop-i-smaller invariant-loop-i decreases-loop-i
+loop-i-smaller c = omega arith
 
-loop-again : tie.Need-loop-preserved invariant-loop decreases-loop
-loop-again c =
+loop-i-preserved : tie.Need-loop-i-preserved invariant-loop-i decreases-loop-i
+loop-i-preserved c =
     let four = c.before.before in
     let three = four.before.before in
     let two = three.before.before in
     let one = two.before.before in
     let at = one.before.before.before in
     let args = at.before.args in
-    let loop = at.loop in (
+    let loop = at.loop-i in (
       omega arith,
       any_turn (stray args.nodes (place args.owner.now)) (job_in args.t3) loop.i loop.found _ loop.invariant.1
-          (stray_read args.owner.now args.nodes args.t3 loop.i _ _ _ _ _ one.byte.ensures.0 two.byte2.ensures.0 three.byte3.ensures.0 four.byte4.ensures.0 c.is-standing.ensures),
+          (stray_read args.owner.now args.nodes args.t3 loop.i _ _ _ _ _ one.byte-entry.ensures.0 two.byte-exit.ensures.0 three.byte-entry_job.ensures.0 four.byte-exit_job.ensures.0 c.is_standing-standing.ensures),
     )
 
-returns : tie.Need-returns invariant-loop decreases-loop
+returns : tie.Need-returns invariant-loop-i decreases-loop-i
 returns c =
     let args = c.before.before.args in
-    let e : c.before.loop.i ≡ c.before.before.args.t3.count = omega arith in
-    c.before.loop.invariant.1 ∙ ap (λ (n : ℕ). any_numbered (stray args.nodes (place args.owner.now)) (row n (job_in c.before.before.args.t3))) e
+    let e : c.before.loop-i.i ≡ c.before.before.args.t3.count = omega arith in
+    c.before.loop-i.invariant.1 ∙ ap (λ (n : ℕ). any_numbered (stray args.nodes (place args.owner.now)) (row n (job_in c.before.before.args.t3))) e
 
-pub any-stray-spec : {M : Type 1} → statement M
-any-stray-spec =
+pub any_stray_spec : {M : Type 1} → statement M
+any_stray_spec =
     tie.close
-    (tie.spec
-    invariant-loop
-    decreases-loop
-    loop-holds
-    element-copy-out-byte
-    byte-requires
-    element-copy-out-byte-2
-    byte-requires-2
-    element-copy-out-byte-3
-    byte-requires-3
-    element-copy-out-byte-4
-    byte-requires-4
-    element-copy-out-is-standing
-    is-standing-requires
-    add-i
-    loop-less
-    loop-again
-    returns)
+    (tie.spec invariant-loop-i decreases-loop-i loop-i-init bounds-jobs-i byte-entry-requires bounds-jobs-i-in-loop-i byte-exit-requires bounds-owner-entry byte-entry_job-requires bounds-owner-exit byte-exit_job-requires bounds-jobs-i-in-loop-i-2 is_standing-standing-requires overflow_add-i loop-i-smaller loop-i-preserved returns)

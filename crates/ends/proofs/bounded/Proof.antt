@@ -4,23 +4,23 @@ use Rattle.ends.proofs.Arrays.{owners_few, few_jobs, few_steps, few_calls, few_a
 use Rattle.ends.proofs.bounded.Statement.{statement}
 use Rattle.ends.proofs.bounded.Tie as tie
 
-find-faults-requires : tie.Need-find-faults-requires
-find-faults-requires c κs = let l = c.before.before.requires.1 in (omega (arith, few_steps l), owners_few l)
+find_faults-s-requires : tie.Need-find_faults-s-requires
+find_faults-s-requires c κs = let l = c.before.before.requires.1 in (omega (arith, few_steps l), owners_few l)
 
-find-faults-requires-2 : tie.Need-find-faults-requires-2
-find-faults-requires-2 c κs = let l = c.before.before.before.requires.1 in (omega (arith, few_calls l), owners_few l)
+find_faults-c-requires : tie.Need-find_faults-c-requires
+find_faults-c-requires c κs = let l = c.before.before.before.requires.1 in (omega (arith, few_calls l), owners_few l)
 
-find-faults-requires-3 : tie.Need-find-faults-requires-3
-find-faults-requires-3 c κs = let l = c.before.before.before.before.requires.1 in (omega (arith, few_accepts l), owners_few l)
+find_faults-a-requires : tie.Need-find_faults-a-requires
+find_faults-a-requires c κs = let l = c.before.before.before.before.requires.1 in (omega (arith, few_accepts l), owners_few l)
 
-first-of-requires : tie.Need-first-of-requires
-first-of-requires c κs = few_jobs c.before.before.before.before.before.requires.1
+first_of-requires : tie.Need-first_of-requires
+first_of-requires c κs = few_jobs c.before.before.before.before.before.requires.1
 
 returns : tie.Need-returns
 returns c p l =
     let a = c.before in
-    c.first_of.ensures p (lent_tested l _ _ _ a.before.before.find-faults.ensures a.before.find-faults2.ensures a.find-faults3.ensures)
+    c.first_of.ensures p (lent_tested l _ _ _ a.before.before.find_faults-s.ensures a.before.find_faults-c.ensures a.find_faults-a.ensures)
 
 pub bounded_spec : {M : Type 1} → statement M
 bounded_spec =
-    tie.close (tie.spec find-faults-requires find-faults-requires-2 find-faults-requires-3 first-of-requires returns)
+    tie.close (tie.spec find_faults-s-requires find_faults-c-requires find_faults-a-requires first_of-requires returns)

@@ -16,26 +16,26 @@ use Rattle.ends.proofs.Turns.{apart_read, leaving_read, unknown_read}
 use Rattle.ends.proofs.find_faults.Statement.{statement}
 use Rattle.ends.proofs.find_faults.Tie as tie
 
-abbrev invariant-loop : tie.invariant-loop
-invariant-loop owner words at count g nodes channels apart₀ leaving₀ unknown₀ i₀ apart leaving unknown i =
+abbrev invariant-loop-i : tie.invariant-loop-i
+invariant-loop-i owner words at count g nodes channels apart₀ leaving₀ unknown₀ i₀ apart leaving unknown i =
     (i ≤ count)
     × (apart ≡ any (apart-test g.nodes (place owner)) (row i (arc_on words at)))
     × (leaving ≡ any (leaving-test (place owner) (place g.exit) (end_by g.standing)) (row i (arc_on words at)))
     × (unknown ≡ any (unknown-test g.channels) (row i (arc_on words at)))
 
-abbrev decreases-loop : tie.decreases-loop
-decreases-loop owner words at count g nodes channels apart₀ leaving₀ unknown₀ i₀ apart leaving unknown i = count - i
+abbrev decreases-loop-i : tie.decreases-loop-i
+decreases-loop-i owner words at count g nodes channels apart₀ leaving₀ unknown₀ i₀ apart leaving unknown i = count - i
 
 -- the arcs of the arguments
-abbrev arc_of : tie.Start invariant-loop decreases-loop → ℕ → Arc
+abbrev arc_of : tie.Start invariant-loop-i decreases-loop-i → ℕ → Arc
 arc_of s = arc_on s.args.words.now s.args.at
 
 -- no arc has been passed yet
 none : (test : Arc → Bool) (arc : ℕ → Arc) → false ≡ any test (row 0 arc)
 none test arc = sym (any_row_none (λ (k : ℕ). test) arc)
 
-loop-holds : tie.Need-loop-init invariant-loop decreases-loop
-loop-holds c =
+loop-i-init : tie.Need-loop-i-init invariant-loop-i decreases-loop-i
+loop-i-init c =
     let g = c.args.t1 in
     let owner = c.args.owner.now in (
       omega arith,
@@ -44,56 +44,56 @@ loop-holds c =
       none (unknown-test g.channels) (arc_of c),
     )
 
-add-word : tie.Need-overflow-add-word invariant-loop decreases-loop
-add-word c = omega arith
+overflow_add-word : tie.Need-overflow_add-word invariant-loop-i decreases-loop-i
+overflow_add-word c = omega arith
 
-mul-word : tie.Need-overflow-mul-word invariant-loop decreases-loop
-mul-word c = omega arith
+offset_bounds-words-at : tie.Need-offset_bounds-words-at invariant-loop-i decreases-loop-i
+offset_bounds-words-at c = omega arith
 
-element-copy-out-word : tie.Need-element-copy-out-word invariant-loop decreases-loop
-element-copy-out-word c = omega arith
+bounds-words-at : tie.Need-bounds-words-at invariant-loop-i decreases-loop-i
+bounds-words-at c = omega arith
 
-from-of-requires : tie.Need-from-of-requires invariant-loop decreases-loop
-from-of-requires c κs = tt
+from_of-from-requires : tie.Need-from_of-from-requires invariant-loop-i decreases-loop-i
+from_of-from-requires c κs = tt
 
-to-of-requires : tie.Need-to-of-requires invariant-loop decreases-loop
-to-of-requires c κs = tt
+to_of-to-requires : tie.Need-to_of-to-requires invariant-loop-i decreases-loop-i
+to_of-to-requires c κs = tt
 
-label-of-requires : tie.Need-label-of-requires invariant-loop decreases-loop
-label-of-requires c κs = tt
+label_of-label-requires : tie.Need-label_of-label-requires invariant-loop-i decreases-loop-i
+label_of-label-requires c κs = tt
 
-element-copy-out-byte : tie.Need-element-copy-out-byte invariant-loop decreases-loop
-element-copy-out-byte c = c.before.before.from-of.ensures.1
+bounds-owner-from : tie.Need-bounds-owner-from invariant-loop-i decreases-loop-i
+bounds-owner-from c = c.before.before.from_of-from.ensures.1
 
-byte-requires : tie.Need-byte-requires invariant-loop decreases-loop
-byte-requires c κs = tt
+byte-job-requires : tie.Need-byte-job-requires invariant-loop-i decreases-loop-i
+byte-job-requires c κs = tt
 
-element-copy-out-byte-2 : tie.Need-element-copy-out-byte-2 invariant-loop decreases-loop
-element-copy-out-byte-2 c = c.before.before.before.to-of.ensures.1
+bounds-owner-to : tie.Need-bounds-owner-to invariant-loop-i decreases-loop-i
+bounds-owner-to c = c.before.before.before.to_of-to.ensures.1
 
-byte-requires-2 : tie.Need-byte-requires-2 invariant-loop decreases-loop
-byte-requires-2 c κs = tt
+byte-other-requires : tie.Need-byte-other-requires invariant-loop-i decreases-loop-i
+byte-other-requires c κs = tt
 
-element-copy-out-byte-3 : tie.Need-element-copy-out-byte-3 invariant-loop decreases-loop
-element-copy-out-byte-3 c = rw c.before.before.byte.ensures.0 (c.before.before.before.before.before.before.before.before.before.before.requires.1 _)
+bounds-g-job : tie.Need-bounds-g-job invariant-loop-i decreases-loop-i
+bounds-g-job c = rw c.before.before.byte-job.ensures.0 (c.before.before.before.before.before.before.before.before.before.before.requires.1 _)
 
-byte-requires-3 : tie.Need-byte-requires-3 invariant-loop decreases-loop
-byte-requires-3 c κs = tt
+byte-exit-requires : tie.Need-byte-exit-requires invariant-loop-i decreases-loop-i
+byte-exit-requires c κs = tt
 
-element-copy-out-is-standing : tie.Need-element-copy-out-is-standing invariant-loop decreases-loop
-element-copy-out-is-standing c = rw c.before.before.before.before.byte.ensures.0 (c.before.before.before.before.before.before.before.before.before.before.before.before.requires.1 _)
+bounds-g-job-in-loop-i : tie.Need-bounds-g-job-in-loop-i invariant-loop-i decreases-loop-i
+bounds-g-job-in-loop-i c = rw c.before.before.before.before.byte-job.ensures.0 (c.before.before.before.before.before.before.before.before.before.before.before.before.requires.1 _)
 
-is-standing-requires : tie.Need-is-standing-requires invariant-loop decreases-loop
-is-standing-requires c κs = tt
+is_standing-standing-requires : tie.Need-is_standing-standing-requires invariant-loop-i decreases-loop-i
+is_standing-standing-requires c κs = tt
 
-add-i : tie.Need-overflow-add-i invariant-loop decreases-loop
-add-i c = omega arith
+overflow_add-i : tie.Need-overflow_add-i invariant-loop-i decreases-loop-i
+overflow_add-i c = omega arith
 
-loop-less : tie.Need-loop-smaller invariant-loop decreases-loop
-loop-less c = omega arith
+loop-i-smaller : tie.Need-loop-i-smaller invariant-loop-i decreases-loop-i
+loop-i-smaller c = omega arith
 
-loop-again : tie.Need-loop-preserved invariant-loop decreases-loop
-loop-again c =
+loop-i-preserved : tie.Need-loop-i-preserved invariant-loop-i decreases-loop-i
+loop-i-preserved c =
     let three = c.before.before in
     let one = three.before.before.before.before in
     let in-loop = one.before.before.before.before.before.before in
@@ -102,50 +102,29 @@ loop-again c =
     let g = start.args.t1 in
     let owner = start.args.owner.now in
     let arc = arc_of start in
-    let loop = at.loop in
-    let from = one.before.before.before.before.from-of.ensures.0 in
-    let job = one.byte.ensures.0 in (
-      omega (arith, in-loop.loop-test.true),
+    let loop = at.loop-i in
+    let from = one.before.before.before.before.from_of-from.ensures.0 in
+    let job = one.byte-job.ensures.0 in (
+      omega (arith, in-loop.loop-i-test.true),
       any_turn (λ (k : ℕ). apart-test g.nodes (place owner)) arc loop.i loop.apart _ loop.invariant.1
-          (apart_read owner g (arc loop.i) _ from _ _ _ one.before.before.before.to-of.ensures.0 job three.before.before.byte2.ensures.0),
+          (apart_read owner g (arc loop.i) _ from _ _ _ one.before.before.before.to_of-to.ensures.0 job three.before.before.byte-other.ensures.0),
       any_turn (λ (k : ℕ). leaving-test (place owner) (place g.exit) (end_by g.standing)) arc loop.i loop.leaving _ loop.invariant.2
-          (leaving_read owner g (arc loop.i) _ from _ _ _ job three.byte3.ensures.0 c.is-standing.ensures),
-      any_turn (λ (k : ℕ). unknown-test g.channels) arc loop.i loop.unknown _ loop.invariant.3 (unknown_read g (arc loop.i) _ one.before.before.label_of.ensures),
+          (leaving_read owner g (arc loop.i) _ from _ _ _ job three.byte-exit.ensures.0 c.is_standing-standing.ensures),
+      any_turn (λ (k : ℕ). unknown-test g.channels) arc loop.i loop.unknown _ loop.invariant.3 (unknown_read g (arc loop.i) _ one.before.before.label_of-label.ensures),
     )
 
-returns : tie.Need-returns invariant-loop decreases-loop
+returns : tie.Need-returns invariant-loop-i decreases-loop-i
 returns c =
     let start = c.before.before in
     let g = start.args.t1 in
     let owner = start.args.owner.now in
-    let inv = c.before.loop.invariant in
-    let e : c.before.loop.i ≡ c.before.before.args.count = omega arith in
-    let found : ◌≡◌ {A = Faults} (record { apart = c.before.loop.apart; leaving = c.before.loop.leaving; unknown = c.before.loop.unknown }) (faults_of g owner (row c.before.loop.i (arc_of start))) =
+    let inv = c.before.loop-i.invariant in
+    let e : c.before.loop-i.i ≡ c.before.before.args.count = omega arith in
+    let found : ◌≡◌ {A = Faults} (record { apart = c.before.loop-i.apart; leaving = c.before.loop-i.leaving; unknown = c.before.loop-i.unknown }) (faults_of g owner (row c.before.loop-i.i (arc_of start))) =
     λ k. record { apart = inv.1 k; leaving = inv.2 k; unknown = inv.3 k } in
     found ∙ ap (λ (n : ℕ). faults_of g owner (row n (arc_of start))) e
 
-pub find-faults-spec : {M : Type 1} → statement M
-find-faults-spec =
+pub find_faults_spec : {M : Type 1} → statement M
+find_faults_spec =
     tie.close
-    (tie.spec
-    invariant-loop
-    decreases-loop
-    loop-holds
-    add-word
-    mul-word
-    element-copy-out-word
-    from-of-requires
-    to-of-requires
-    label-of-requires
-    element-copy-out-byte
-    byte-requires
-    element-copy-out-byte-2
-    byte-requires-2
-    element-copy-out-byte-3
-    byte-requires-3
-    element-copy-out-is-standing
-    is-standing-requires
-    add-i
-    loop-less
-    loop-again
-    returns)
+    (tie.spec invariant-loop-i decreases-loop-i loop-i-init overflow_add-word offset_bounds-words-at bounds-words-at from_of-from-requires to_of-to-requires label_of-label-requires bounds-owner-from byte-job-requires bounds-owner-to byte-other-requires bounds-g-job byte-exit-requires bounds-g-job-in-loop-i is_standing-standing-requires overflow_add-i loop-i-smaller loop-i-preserved returns)

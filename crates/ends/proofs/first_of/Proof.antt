@@ -18,62 +18,62 @@ About c p = Tested p c.args.nodes c.args.owner.now c.args.jobs c.args.s c.args.c
 
 -- ---- what each test that is passed tells
 
-within : (c : tie.Else1) (p : Plan) → About c.before.before.before.before.before.before.before.before.before.before.before p → stray_ends p ≡ false
-within c p t = told (c.before.before.before.before.before.before.before.before.before.before.any-stray.ensures ∙ stray_tested t) c.if1.false
+within : (c : tie.Else-stray) (p : Plan) → About c.before.before.before.before.before.before.before.before.before.before.before p → stray_ends p ≡ false
+within c p t = told (c.before.before.before.before.before.before.before.before.before.before.any_stray-stray.ensures ∙ stray_tested t) c.if-stray.false
 
-ending : (c : tie.Else2) (p : Plan) → About c.before.before.before.before.before.before.before.before.before.before.before.before p → none_ends p ≡ false
-ending c p t = told (c.before.before.before.before.before.before.before.before.before.before.all-stand.ensures ∙ standing_tested t) c.if2.false
+ending : (c : tie.Else-standing) (p : Plan) → About c.before.before.before.before.before.before.before.before.before.before.before.before p → none_ends p ≡ false
+ending c p t = told (c.before.before.before.before.before.before.before.before.before.before.all_stand-standing.ensures ∙ standing_tested t) c.if-standing.false
 
-joined : (c : tie.Else3) (p : Plan) → About c.before.before.before.before.before.before.before.before.before.before.before.before.before p → split_ends p ≡ false
-joined c p t = told (apart_tested t) c.if3.false
+joined : (c : tie.Else-apart) (p : Plan) → About c.before.before.before.before.before.before.before.before.before.before.before.before.before p → split_ends p ≡ false
+joined c p t = told (apart_tested t) c.if-apart.false
 
-staying : (c : tie.Else4) (p : Plan) → About c.before.before.before.before.before.before.before.before.before.before.before.before.before.before p → exit_left p ≡ false
-staying c p t = told (leaving_tested t) c.if4.false
+staying : (c : tie.Else-leaving) (p : Plan) → About c.before.before.before.before.before.before.before.before.before.before.before.before.before.before p → exit_left p ≡ false
+staying c p t = told (leaving_tested t) c.if-leaving.false
 
 -- ---- what is returned
 
-any-stray-requires : tie.Need-any-stray-requires
-any-stray-requires c κs = search rules
+any_stray-stray-requires : tie.Need-any_stray-stray-requires
+any_stray-stray-requires c κs = search rules
 
-all-stand-requires : tie.Need-all-stand-requires
-all-stand-requires c κs = search rules
+all_stand-standing-requires : tie.Need-all_stand-standing-requires
+all_stand-standing-requires c κs = search rules
 
-returns : tie.Need-returns
-returns c p t = sym (ap outcome_of (ends_6 p (told (c.before.before.before.before.before.before.before.before.before.before.any-stray.ensures ∙ stray_tested t) c.if1.true)))
+returns-then-stray : tie.Need-returns-then-stray
+returns-then-stray c p t = sym (ap outcome_of (ends_6 p (told (c.before.before.before.before.before.before.before.before.before.before.any_stray-stray.ensures ∙ stray_tested t) c.if-stray.true)))
 
-returns-2 : tie.Need-returns-2
-returns-2 c p t =
-    sym (ap outcome_of (ends_21 p (within c.before p t) (told (c.before.before.before.before.before.before.before.before.before.before.all-stand.ensures ∙ standing_tested t) c.if2.true)))
+returns-then-standing : tie.Need-returns-then-standing
+returns-then-standing c p t =
+    sym (ap outcome_of (ends_21 p (within c.before p t) (told (c.before.before.before.before.before.before.before.before.before.before.all_stand-standing.ensures ∙ standing_tested t) c.if-standing.true)))
 
-returns-3 : tie.Need-returns-3
-returns-3 c p t =
+returns-then-apart : tie.Need-returns-then-apart
+returns-then-apart c p t =
     let two = c.before in
     let one = two.before in
-    sym (ap outcome_of (ends_7 p (within one p t) (ending two p t) (told (apart_tested t) c.if3.true)))
+    sym (ap outcome_of (ends_7 p (within one p t) (ending two p t) (told (apart_tested t) c.if-apart.true)))
 
-returns-4 : tie.Need-returns-4
-returns-4 c p t =
+returns-then-leaving : tie.Need-returns-then-leaving
+returns-then-leaving c p t =
     let three = c.before in
     let two = three.before in
     let one = two.before in
-    sym (ap outcome_of (ends_8 p (within one p t) (ending two p t) (joined three p t) (told (leaving_tested t) c.if4.true)))
+    sym (ap outcome_of (ends_8 p (within one p t) (ending two p t) (joined three p t) (told (leaving_tested t) c.if-leaving.true)))
 
-returns-5 : tie.Need-returns-5
-returns-5 c p t =
+returns-then-unknown : tie.Need-returns-then-unknown
+returns-then-unknown c p t =
     let four = c.before in
     let three = four.before in
     let two = three.before in
     let one = two.before in
-    sym (ap outcome_of (ends_9 p (within one p t) (ending two p t) (joined three p t) (staying four p t) (told (unknown_tested t) c.if5.true)))
+    sym (ap outcome_of (ends_9 p (within one p t) (ending two p t) (joined three p t) (staying four p t) (told (unknown_tested t) c.if-unknown.true)))
 
-returns-6 : tie.Need-returns-6
-returns-6 c p t =
+returns : tie.Need-returns
+returns c p t =
     let four = c.before in
     let three = four.before in
     let two = three.before in
     let one = two.before in
-    sym (ap outcome_of (ends_none p (within one p t) (ending two p t) (joined three p t) (staying four p t) (told (unknown_tested t) c.if5.false)))
+    sym (ap outcome_of (ends_none p (within one p t) (ending two p t) (joined three p t) (staying four p t) (told (unknown_tested t) c.if-unknown.false)))
 
-pub first-of-spec : {M : Type 1} → statement M
-first-of-spec =
-    tie.close (tie.spec any-stray-requires all-stand-requires returns returns-2 returns-3 returns-4 returns-5 returns-6)
+pub first_of_spec : {M : Type 1} → statement M
+first_of_spec =
+    tie.close (tie.spec any_stray-stray-requires all_stand-standing-requires returns-then-stray returns-then-standing returns-then-apart returns-then-leaving returns-then-unknown returns)

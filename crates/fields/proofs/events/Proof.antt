@@ -12,35 +12,35 @@ use Rattle.fields.proofs.Laws.{events_in, events_none, events_more, field_last, 
 use Rattle.fields.proofs.events.Statement.{statement}
 use Rattle.fields.proofs.events.Tie as tie
 
-abbrev invariant-loop : tie.invariant-loop
-invariant-loop plan at rest₀ set₀ i₀ rest set i = (i ≤ 31) × (rest ≡ field_at plan at (31 - i)) × (set ≡ events_in plan (at + (31 - i)) i) × (set < 2 ^ i)
+abbrev invariant-loop-i : tie.invariant-loop-i
+invariant-loop-i plan at rest₀ set₀ i₀ rest set i = (i ≤ 31) × (rest ≡ field_at plan at (31 - i)) × (set ≡ events_in plan (at + (31 - i)) i) × (set < 2 ^ i)
 
-abbrev decreases-loop : tie.decreases-loop
-decreases-loop plan at rest₀ set₀ i₀ rest set i = 31 - i
+abbrev decreases-loop-i : tie.decreases-loop-i
+decreases-loop-i plan at rest₀ set₀ i₀ rest set i = 31 - i
 
-field-requires : tie.Need-field-requires invariant-loop decreases-loop
-field-requires c κs = omega arith
+field-rest-requires : tie.Need-field-rest-requires invariant-loop-i decreases-loop-i
+field-rest-requires c κs = omega arith
 
-loop-holds : tie.Need-loop-init invariant-loop decreases-loop
-loop-holds c = (omega arith, c.field.ensures, sym (events_none c.before.before.args.plan.now (c.before.before.args.at + 31)), omega arith)
+loop-i-init : tie.Need-loop-i-init invariant-loop-i decreases-loop-i
+loop-i-init c = (omega arith, c.field-rest.ensures, sym (events_none c.before.before.args.plan.now (c.before.before.args.at + 31)), omega arith)
 
-mul-set : tie.Need-overflow-mul-set invariant-loop decreases-loop
-mul-set c = omega (arith, pow_mono {i = c.before.loop.i} {j = 30} (omega arith))
+overflow_mul-set : tie.Need-overflow_mul-set invariant-loop-i decreases-loop-i
+overflow_mul-set c = omega (arith, pow_mono {i = c.before.loop-i.i} {j = 30} (omega arith))
 
-add-set : tie.Need-overflow-add-set invariant-loop decreases-loop
-add-set c = omega (arith, pow_mono {i = c.before.loop.i} {j = 30} (omega arith))
+overflow_add-set : tie.Need-overflow_add-set invariant-loop-i decreases-loop-i
+overflow_add-set c = omega (arith, pow_mono {i = c.before.loop-i.i} {j = 30} (omega arith))
 
-add-i : tie.Need-overflow-add-i invariant-loop decreases-loop
-add-i c = omega arith
+overflow_add-i : tie.Need-overflow_add-i invariant-loop-i decreases-loop-i
+overflow_add-i c = omega arith
 
-loop-less : tie.Need-loop-smaller invariant-loop decreases-loop
-loop-less c = omega arith
+loop-i-smaller : tie.Need-loop-i-smaller invariant-loop-i decreases-loop-i
+loop-i-smaller c = omega arith
 
-loop-again : tie.Need-loop-preserved invariant-loop decreases-loop
-loop-again c =
+loop-i-preserved : tie.Need-loop-i-preserved invariant-loop-i decreases-loop-i
+loop-i-preserved c =
     let bs = c.before.before.before.before.args.plan.now in
     let at = c.before.before.before.before.args.at in
-    let loop = c.before.loop in
+    let loop = c.before.loop-i in
     let k = 31 - (loop.i + 1) in
     let within : at + k < 8 * length bs = omega arith in
     let rest : loop.rest ≡ field_at bs at (k + 1) = loop.invariant.1 ∙ ap (field_at bs at) (omega arith) in
@@ -52,31 +52,19 @@ loop-again c =
       omega (arith, loop.invariant.3),
     )
 
-mul-result : tie.Need-overflow-mul-result invariant-loop decreases-loop
-mul-result c = omega (arith, pow_mono {i = c.before.loop.i} {j = 31} (omega arith))
+overflow_mul-result : tie.Need-overflow_mul-result invariant-loop-i decreases-loop-i
+overflow_mul-result c = omega (arith, pow_mono {i = c.before.loop-i.i} {j = 31} (omega arith))
 
-cast-result : tie.Need-overflow-cast-result invariant-loop decreases-loop
-cast-result c = omega (arith, pow_mono {i = c.before.loop.i} {j = 31} (omega arith))
+overflow_cast-result : tie.Need-overflow_cast-result invariant-loop-i decreases-loop-i
+overflow_cast-result c = omega (arith, pow_mono {i = c.before.loop-i.i} {j = 31} (omega arith))
 
-returns : tie.Need-returns invariant-loop decreases-loop
+returns : tie.Need-returns invariant-loop-i decreases-loop-i
 returns c =
     let args = c.before.before.before.before.args in
-    let e : c.before.loop.i ≡ 31 = omega arith in
-    rw (events_all args.plan.now args.at, c.before.loop.invariant.2, e, add_zero)
+    let e : c.before.loop-i.i ≡ 31 = omega arith in
+    rw (events_all args.plan.now args.at, c.before.loop-i.invariant.2, e, add_zero)
 
-pub events-spec : {M : Type 1} → statement M
-events-spec =
+pub events_spec : {M : Type 1} → statement M
+events_spec =
     tie.close
-    (tie.spec
-    invariant-loop
-    decreases-loop
-    field-requires
-    loop-holds
-    mul-set
-    add-set
-    add-i
-    loop-less
-    loop-again
-    mul-result
-    cast-result
-    returns)
+    (tie.spec invariant-loop-i decreases-loop-i field-rest-requires loop-i-init overflow_mul-set overflow_add-set overflow_add-i loop-i-smaller loop-i-preserved overflow_mul-result overflow_cast-result returns)

@@ -10,105 +10,85 @@ use Rattle.fields.proofs.Laws.{field_none, field_lt, field_within, shifted, byte
 use Rattle.fields.proofs.field.Statement.{statement}
 use Rattle.fields.proofs.field.Tie as tie
 
-abbrev invariant-loop : tie.invariant-loop
-invariant-loop plan at width skip count acc₀ i₀ acc i = (i ≤ count) × (acc ≡ field_at plan (8 * (at / 8)) (8 * i))
+abbrev invariant-loop-i : tie.invariant-loop-i
+invariant-loop-i plan at width skip count acc₀ i₀ acc i = (i ≤ count) × (acc ≡ field_at plan (8 * (at / 8)) (8 * i))
 
-abbrev decreases-loop : tie.decreases-loop
-decreases-loop plan at width skip count acc₀ i₀ acc i = count - i
+abbrev decreases-loop-i : tie.decreases-loop-i
+decreases-loop-i plan at width skip count acc₀ i₀ acc i = count - i
 
-add-count : tie.Need-overflow-add-count invariant-loop decreases-loop
-add-count c = omega arith
+overflow_add-count : tie.Need-overflow_add-count invariant-loop-i decreases-loop-i
+overflow_add-count c = omega arith
 
-add-count-2 : tie.Need-overflow-add-count-2 invariant-loop decreases-loop
-add-count-2 c = omega arith
+overflow_add-count-2 : tie.Need-overflow_add-count-2 invariant-loop-i decreases-loop-i
+overflow_add-count-2 c = omega arith
 
-loop-holds : tie.Need-loop-init invariant-loop decreases-loop
-loop-holds c = (omega arith, sym (field_none _ _))
+loop-i-init : tie.Need-loop-i-init invariant-loop-i decreases-loop-i
+loop-i-init c = (omega arith, sym (field_none _ _))
 
 -- four bytes or fewer were read, since the field has 31 bits at most
-few : (c : tie.In-loop invariant-loop decreases-loop) → c.before.loop.acc < 2 ^ 32
+few : (c : tie.In-loop-i invariant-loop-i decreases-loop-i) → c.before.loop-i.acc < 2 ^ 32
 few c =
     let args = c.before.before.args in
-    omega (arith, field_lt args.plan.now (8 * (args.at / 8)) (8 * c.before.loop.i) (omega arith), pow_mono {i = 8 * c.before.loop.i} {j = 32} (omega arith))
+    omega (arith, field_lt args.plan.now (8 * (args.at / 8)) (8 * c.before.loop-i.i) (omega arith), pow_mono {i = 8 * c.before.loop-i.i} {j = 32} (omega arith))
 
-mul-acc : tie.Need-overflow-mul-acc invariant-loop decreases-loop
-mul-acc c = omega (arith, few c)
+overflow_mul-acc : tie.Need-overflow_mul-acc invariant-loop-i decreases-loop-i
+overflow_mul-acc c = omega (arith, few c)
 
-add-acc : tie.Need-overflow-add-acc invariant-loop decreases-loop
-add-acc c = omega arith
+overflow_add-acc : tie.Need-overflow_add-acc invariant-loop-i decreases-loop-i
+overflow_add-acc c = omega arith
 
-shared-slice-read-acc : tie.Need-shared-slice-read-acc invariant-loop decreases-loop
-shared-slice-read-acc c = omega arith
+bounds-plan-at : tie.Need-bounds-plan-at invariant-loop-i decreases-loop-i
+bounds-plan-at c = omega arith
 
-cast-acc : tie.Need-overflow-cast-acc invariant-loop decreases-loop
-cast-acc c = omega (arith, c.shared-slice-known.given (c.before.before.before.args.at / 8 + c.before.before.loop.i))
+overflow_cast-acc : tie.Need-overflow_cast-acc invariant-loop-i decreases-loop-i
+overflow_cast-acc c = omega (arith, c.shared_slice_known-1.given (c.before.before.before.args.at / 8 + c.before.before.loop-i.i))
 
-add-acc-2 : tie.Need-overflow-add-acc-2 invariant-loop decreases-loop
-add-acc-2 c = omega (arith, few c.before, c.shared-slice-known.given (c.before.before.before.args.at / 8 + c.before.before.loop.i))
+overflow_add-acc-in-loop-i : tie.Need-overflow_add-acc-in-loop-i invariant-loop-i decreases-loop-i
+overflow_add-acc-in-loop-i c = omega (arith, few c.before, c.shared_slice_known-1.given (c.before.before.before.args.at / 8 + c.before.before.loop-i.i))
 
-add-i : tie.Need-overflow-add-i invariant-loop decreases-loop
-add-i c = omega arith
+overflow_add-i : tie.Need-overflow_add-i invariant-loop-i decreases-loop-i
+overflow_add-i c = omega arith
 
-loop-less : tie.Need-loop-smaller invariant-loop decreases-loop
-loop-less c = omega arith
+loop-i-smaller : tie.Need-loop-i-smaller invariant-loop-i decreases-loop-i
+loop-i-smaller c = omega arith
 
-loop-again : tie.Need-loop-preserved invariant-loop decreases-loop
-loop-again c =
+loop-i-preserved : tie.Need-loop-i-preserved invariant-loop-i decreases-loop-i
+loop-i-preserved c =
     let args = c.before.before.before.args in
-    let loop = c.before.before.loop in
+    let loop = c.before.before.loop-i in
     let at = args.at / 8 + loop.i in
-    let more = bytes_more args.plan.now (args.at / 8) loop.i (omega arith) (omega (arith, c.shared-slice-known.given at)) in
+    let more = bytes_more args.plan.now (args.at / 8) loop.i (omega arith) (omega (arith, c.shared_slice_known-1.given at)) in
     (omega arith, omega (arith, loop.invariant.1, more))
 
-mul-result : tie.Need-overflow-mul-result invariant-loop decreases-loop
-mul-result c = omega arith
+overflow_mul-result : tie.Need-overflow_mul-result invariant-loop-i decreases-loop-i
+overflow_mul-result c = omega arith
 
-sub-result : tie.Need-overflow-sub-result invariant-loop decreases-loop
-sub-result c = omega arith
+overflow_sub-result : tie.Need-overflow_sub-result invariant-loop-i decreases-loop-i
+overflow_sub-result c = omega arith
 
-sub-result-2 : tie.Need-overflow-sub-result-2 invariant-loop decreases-loop
-sub-result-2 c = omega arith
+overflow_sub-result-2 : tie.Need-overflow_sub-result-2 invariant-loop-i decreases-loop-i
+overflow_sub-result-2 c = omega arith
 
-shr-result : tie.Need-overflow-shr-result invariant-loop decreases-loop
-shr-result c = omega arith
+overflow_shr-result : tie.Need-overflow_shr-result invariant-loop-i decreases-loop-i
+overflow_shr-result c = omega arith
 
-shl-result : tie.Need-overflow-shl-result invariant-loop decreases-loop
-shl-result c = omega arith
+overflow_shl-result : tie.Need-overflow_shl-result invariant-loop-i decreases-loop-i
+overflow_shl-result c = omega arith
 
-rem-result : tie.Need-nonzero-rem-result invariant-loop decreases-loop
-rem-result c = rw (shifted c.before.before.args.width (omega arith)) (pow_pos c.before.before.args.width)
+nonzero_rem-result : tie.Need-nonzero_rem-result invariant-loop-i decreases-loop-i
+nonzero_rem-result c = rw (shifted c.before.before.args.width (omega arith)) (pow_pos c.before.before.args.width)
 
-returns : tie.Need-returns invariant-loop decreases-loop
+returns : tie.Need-returns invariant-loop-i decreases-loop-i
 returns c =
     let args = c.before.before.args in
     let skip = args.at % 8 in
     let rest = 8 * ((args.at % 8 + args.width + 7) / 8) - args.at % 8 - args.width in
-    let all : c.before.loop.i ≡ (args.at % 8 + args.width + 7) / 8 = le_antisymm c.before.loop.invariant.0 c.loop-test.false in
-    let bits : 8 * c.before.loop.i ≡ skip + args.width + rest = ap (λ (n : ℕ). 8 * n) all ∙ omega arith in
+    let all : c.before.loop-i.i ≡ (args.at % 8 + args.width + 7) / 8 = le_antisymm c.before.loop-i.invariant.0 c.loop-i-test.false in
+    let bits : 8 * c.before.loop-i.i ≡ skip + args.width + rest = ap (λ (n : ℕ). 8 * n) all ∙ omega arith in
     let start : 8 * (args.at / 8) + skip ≡ args.at = omega arith in
-    rw (shifted args.width (omega arith), c.before.loop.invariant.1, bits, field_within args.plan.now (8 * (args.at / 8)) skip args.width rest (omega arith), start)
+    rw (shifted args.width (omega arith), c.before.loop-i.invariant.1, bits, field_within args.plan.now (8 * (args.at / 8)) skip args.width rest (omega arith), start)
 
-pub field-spec : {M : Type 1} → statement M
-field-spec =
+pub field_spec : {M : Type 1} → statement M
+field_spec =
     tie.close
-    (tie.spec
-    invariant-loop
-    decreases-loop
-    add-count
-    add-count-2
-    loop-holds
-    mul-acc
-    add-acc
-    shared-slice-read-acc
-    cast-acc
-    add-acc-2
-    add-i
-    loop-less
-    loop-again
-    mul-result
-    sub-result
-    sub-result-2
-    shr-result
-    shl-result
-    rem-result
-    returns)
+    (tie.spec invariant-loop-i decreases-loop-i overflow_add-count overflow_add-count-2 loop-i-init overflow_mul-acc overflow_add-acc bounds-plan-at overflow_cast-acc overflow_add-acc-in-loop-i overflow_add-i loop-i-smaller loop-i-preserved overflow_mul-result overflow_sub-result overflow_sub-result-2 overflow_shr-result overflow_shl-result nonzero_rem-result returns)

@@ -10,8 +10,8 @@ use borrow.Author.Rules.{rules}
 use Rattle.item.proofs.is_cut.Statement.{statement}
 use Rattle.item.proofs.is_cut.Tie as tie
 
-add-result : tie.Need-overflow-add-result
-add-result c = search rules
+overflow_add-result : tie.Need-overflow_add-result
+overflow_add-result c = search rules
 
 returns : tie.Need-returns
 returns c =
@@ -20,5 +20,5 @@ returns c =
     let go : (t : Bool) → ltb len bytes ≡ t → t ≡ ltb (8 * len) c.args.n = λ t. elim t [ true ↦ λ h. let k = ltb-true len bytes h in sym (lt-ltb (8 * len) c.args.n (omega arith)) | false ↦ λ h. let k = ltb-false len bytes h in sym (le-ltb (8 * len) c.args.n (omega arith)) ] in
     go (ltb len bytes) refl
 
-pub is-cut-spec : {M : Type 1} → statement M
-is-cut-spec = tie.close (tie.spec add-result returns)
+pub is_cut_spec : {M : Type 1} → statement M
+is_cut_spec = tie.close (tie.spec overflow_add-result returns)

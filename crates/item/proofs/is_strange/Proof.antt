@@ -6,5 +6,5 @@ use Rattle.item.proofs.is_strange.Tie as tie
 returns : tie.Need-returns
 returns c = refl
 
-pub is-strange-spec : {M : Type 1} → statement M
-is-strange-spec = tie.close (tie.spec returns)
+pub is_strange_spec : {M : Type 1} → statement M
+is_strange_spec = tie.close (tie.spec returns)

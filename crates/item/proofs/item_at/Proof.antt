@@ -21,171 +21,149 @@ use Rattle.item.proofs.item_at.Statement.{statement}
 use Rattle.item.proofs.item_at.Tie as tie
 
 -- the arguments, at the place behind the first test
-abbrev bytes : tie.Else1 → List ℕ
+abbrev bytes : tie.Else-is_cut → List ℕ
 bytes e = e.before.before.before.args.rest.now
 
-abbrev alphabet : tie.Else1 → ℕ
+abbrev alphabet : tie.Else-is_cut → ℕ
 alphabet e = e.before.before.before.args.alphabet
 
-abbrev at : tie.Else1 → ℕ
+abbrev at : tie.Else-is_cut → ℕ
 at e = e.before.before.before.args.at
 
-abbrev depth : tie.Else1 → ℕ
+abbrev depth : tie.Else-is_cut → ℕ
 depth e = e.before.before.before.args.depth
 
-abbrev kind_read : tie.Else2 → tie.Else1
+abbrev kind_read : tie.Else-kind-gt4 → tie.Else-is_cut
 kind_read c = c.before.before
 
 -- the tests, as the code found them
-whole : (e : tie.Else1) → cut (bytes e) (at e + 3) ≡ false
-whole e = told e.before.is_cut.ensures e.if1.false
+whole : (e : tie.Else-is_cut) → cut (bytes e) (at e + 3) ≡ false
+whole e = told e.before.is_cut.ensures e.if-is_cut.false
 
-kind : (c : tie.Else2) → c.before.field.result ≡ kind_at (bytes (kind_read c)) (at (kind_read c))
-kind c = c.before.field.ensures
+kind : (c : tie.Else-kind-gt4) → c.before.field-kind.result ≡ kind_at (bytes (kind_read c)) (at (kind_read c))
+kind c = c.before.field-kind.ensures
 
-known : (c : tie.Else2) → ltb 4 c.before.field.result ≡ false
-known c = le-ltb _ _ c.if2.false
+known : (c : tie.Else-kind-gt4) → ltb 4 c.before.field-kind.result ≡ false
+known c = le-ltb _ _ c.if-kind-gt4.false
 
-one : (c : tie.Then3) → eqb c.before.before.field.result 1 ≡ true
-one c = eq-eqb _ _ c.if3.true
+one : (c : tie.Then-kind-eq1) → eqb c.before.before.field-kind.result 1 ≡ true
+one c = eq-eqb _ _ c.if-kind-eq1.true
 
-other : (c : tie.Else3) → eqb c.before.before.field.result 1 ≡ false
-other c = ne_eqb _ _ c.if3.false
+other : (c : tie.Else-kind-eq1) → eqb c.before.before.field-kind.result 1 ≡ false
+other c = ne_eqb _ _ c.if-kind-eq1.false
 
-held : (c : tie.Else4) → cut (bytes (kind_read c.before.before.before)) (at (kind_read c.before.before.before) + 34) ≡ false
-held c = told c.before.is-cut2.ensures c.if4.false
+held : (c : tie.Else-is_cut-2) → cut (bytes (kind_read c.before.before.before)) (at (kind_read c.before.before.before) + 34) ≡ false
+held c = told c.before.is_cut-then-kind-eq1.ensures c.if-is_cut-2.false
 
-strange_told : (c : tie.After-is-strange) → c.is-strange.result ≡ strange (alphabet (kind_read c.before.before.before.before.before)) (set_at (bytes (kind_read c.before.before.before.before.before)) (at (kind_read c.before.before.before.before.before)))
-strange_told c = c.is-strange.ensures ∙ ap (strange (alphabet (kind_read c.before.before.before.before.before))) c.before.events.ensures
+strange_told : (c : tie.After-is_strange) → c.is_strange.result ≡ strange (alphabet (kind_read c.before.before.before.before.before)) (set_at (bytes (kind_read c.before.before.before.before.before)) (at (kind_read c.before.before.before.before.before)))
+strange_told c = c.is_strange.ensures ∙ ap (strange (alphabet (kind_read c.before.before.before.before.before))) c.before.events-set.ensures
 
 -- a refusal is answered where it is the item's
 refused : (b : List ℕ) (alphabet at depth : ℕ) {n : ℕ} {r : Found} → r ≡ found_as (some n) empty → first (faults b alphabet) (record { at = at; depth = depth }) ≡ some n
     → r ≡ found b alphabet (record { at = at; depth = depth })
 refused b alphabet at depth e h = e ∙ sym (ap (λ (o : Option ℕ). found_as o (item_at b at)) h)
 
-add-is-cut : tie.Need-overflow-add-is-cut
-add-is-cut c = search rules
+overflow_add-at : tie.Need-overflow_add-at
+overflow_add-at c = search rules
 
-is-cut-requires : tie.Need-is-cut-requires
-is-cut-requires c κs = search rules
+is_cut-requires : tie.Need-is_cut-requires
+is_cut-requires c κs = search rules
 
 fault-requires : tie.Need-fault-requires
 fault-requires c κs = search rules
 
-returns : tie.Need-returns
-returns c =
+returns-then-is_cut : tie.Need-returns-then-is_cut
+returns-then-is_cut c =
     let a = c.before.before.before.before.args in
     refused a.rest.now a.alphabet a.at a.depth c.fault.ensures
-    (kind_cut a.rest.now a.alphabet a.at a.depth (told c.before.before.is_cut.ensures c.before.if1.true))
+    (kind_cut a.rest.now a.alphabet a.at a.depth (told c.before.before.is_cut.ensures c.before.if-is_cut.true))
 
-field-requires : tie.Need-field-requires
-field-requires c κs = (omega arith, omega arith, ltb-false _ _ (whole c))
+field-kind-requires : tie.Need-field-kind-requires
+field-kind-requires c κs = (omega arith, omega arith, ltb-false _ _ (whole c))
 
-fault-requires-2 : tie.Need-fault-requires-2
-fault-requires-2 c κs = search rules
+fault-requires-then-kind-gt4 : tie.Need-fault-requires-then-kind-gt4
+fault-requires-then-kind-gt4 c κs = search rules
 
-returns-2 : tie.Need-returns-2
-returns-2 c =
+returns-then-kind-gt4 : tie.Need-returns-then-kind-gt4
+returns-then-kind-gt4 c =
     let e = c.before.before.before in
-    refused (bytes e) (alphabet e) (at e) (depth e) c.fault2.ensures (kind_unknown (bytes e) (alphabet e) (at e) (depth e) (whole e) _ c.before.before.field.ensures (lt-ltb _ _ c.before.if2.true))
+    refused (bytes e) (alphabet e) (at e) (depth e) c.fault-then-kind-gt4.ensures (kind_unknown (bytes e) (alphabet e) (at e) (depth e) (whole e) _ c.before.before.field-kind.ensures (lt-ltb _ _ c.before.if-kind-gt4.true))
 
-add-is-cut-2 : tie.Need-overflow-add-is-cut-2
-add-is-cut-2 c = search rules
+overflow_add-at-then-kind-eq1 : tie.Need-overflow_add-at-then-kind-eq1
+overflow_add-at-then-kind-eq1 c = search rules
 
-is-cut-requires-2 : tie.Need-is-cut-requires-2
-is-cut-requires-2 c κs = search rules
+is_cut-requires-then-kind-eq1 : tie.Need-is_cut-requires-then-kind-eq1
+is_cut-requires-then-kind-eq1 c κs = search rules
 
-fault-requires-3 : tie.Need-fault-requires-3
-fault-requires-3 c κs = search rules
+fault-requires-then-is_cut-2 : tie.Need-fault-requires-then-is_cut-2
+fault-requires-then-is_cut-2 c κs = search rules
 
-returns-3 : tie.Need-returns-3
-returns-3 c =
+returns-then-is_cut-2 : tie.Need-returns-then-is_cut-2
+returns-then-is_cut-2 c =
     let f = c.before.before.before in
     let e = kind_read f.before in
-    refused (bytes e) (alphabet e) (at e) (depth e) c.fault3.ensures
-    (set_cut (bytes e) (alphabet e) (at e) (depth e) (whole e) _ (kind f.before) (known f.before) (one f) (told c.before.before.is-cut2.ensures c.before.if4.true))
+    refused (bytes e) (alphabet e) (at e) (depth e) c.fault-then-is_cut-2.ensures
+    (set_cut (bytes e) (alphabet e) (at e) (depth e) (whole e) _ (kind f.before) (known f.before) (one f) (told c.before.before.is_cut-then-kind-eq1.ensures c.before.if-is_cut-2.true))
 
-add-events : tie.Need-overflow-add-events
-add-events c = search rules
+overflow_add-at-then-kind-eq1-2 : tie.Need-overflow_add-at-then-kind-eq1-2
+overflow_add-at-then-kind-eq1-2 c = search rules
 
-events-requires : tie.Need-events-requires
-events-requires c κs =
+events-set-requires : tie.Need-events-set-requires
+events-set-requires c κs =
     let e = kind_read c.before.before.before in
     let h : at e + 34 ≤ 8 * length (bytes e) = ltb-false _ _ (held c) in
     (omega arith, omega arith)
 
-is-strange-requires : tie.Need-is-strange-requires
-is-strange-requires c κs = search rules
+is_strange-requires : tie.Need-is_strange-requires
+is_strange-requires c κs = search rules
 
-fault-requires-4 : tie.Need-fault-requires-4
-fault-requires-4 c κs = search rules
+fault-requires-then-is_strange : tie.Need-fault-requires-then-is_strange
+fault-requires-then-is_strange c κs = search rules
 
-returns-4 : tie.Need-returns-4
-returns-4 c =
+returns-then-is_strange : tie.Need-returns-then-is_strange
+returns-then-is_strange c =
     let f = c.before.before.before.before in
     let t = f.before.before in
     let e = kind_read t.before in
-    refused (bytes e) (alphabet e) (at e) (depth e) c.fault4.ensures
-    (set_strange (bytes e) (alphabet e) (at e) (depth e) (whole e) _ (kind t.before) (known t.before) (one t) (held f) (told (strange_told c.before.before) c.before.if5.true))
+    refused (bytes e) (alphabet e) (at e) (depth e) c.fault-then-is_strange.ensures
+    (set_strange (bytes e) (alphabet e) (at e) (depth e) (whole e) _ (kind t.before) (known t.before) (one t) (held f) (told (strange_told c.before.before) c.before.if-is_strange.true))
 
-returns-5 : tie.Need-returns-5
-returns-5 c =
+returns-then-kind-eq1 : tie.Need-returns-then-kind-eq1
+returns-then-kind-eq1 c =
     let f = c.before.before.before in
     let t = f.before.before in
     let e = kind_read t.before in
-    let fine = set_fine (bytes e) (alphabet e) (at e) (depth e) (whole e) _ (kind t.before) (known t.before) (one t) (held f) (told (strange_told c.before) c.if5.false) in
+    let fine = set_fine (bytes e) (alphabet e) (at e) (depth e) (whole e) _ (kind t.before) (known t.before) (one t) (held f) (told (strange_told c.before) c.if-is_strange.false) in
     let is = set_is (bytes e) (alphabet e) (at e) (depth e) (whole e) _ (kind t.before) (known t.before) (one t) (held f) in
-    let read : ◌≡◌ {A = Found} (record { outcome = Accepted; kind = 1; set = c.before.before.events.result }) (found_as none (events (set_at (bytes e) (at e)))) = λ i. record { outcome = Accepted; kind = 1; set = c.before.before.events.ensures i } in
+    let read : ◌≡◌ {A = Found} (record { outcome = Accepted; kind = 1; set = c.before.before.events-set.result }) (found_as none (events (set_at (bytes e) (at e)))) = λ i. record { outcome = Accepted; kind = 1; set = c.before.before.events-set.ensures i } in
     read ∙ sym (ap (λ (o : Option ℕ). found_as o (item_at (bytes e) (at e))) fine ∙ ap (found_as none) is)
 
-cast-operator : tie.Need-overflow-cast-operator
-cast-operator c = search rules
+overflow_cast-operator : tie.Need-overflow_cast-operator
+overflow_cast-operator c = search rules
 
-arity-of-requires : tie.Need-arity-of-requires
-arity-of-requires c κs = search rules
+arity_of-requires : tie.Need-arity_of-requires
+arity_of-requires c κs = search rules
 
-fault-requires-5 : tie.Need-fault-requires-5
-fault-requires-5 c κs = search rules
+fault-requires-then-depth-arity_of : tie.Need-fault-requires-then-depth-arity_of
+fault-requires-then-depth-arity_of c κs = search rules
 
-returns-6 : tie.Need-returns-6
-returns-6 c =
+returns-then-depth-arity_of : tie.Need-returns-then-depth-arity_of
+returns-then-depth-arity_of c =
     let t = c.before.before.before in
     let e = kind_read t.before in
-    refused (bytes e) (alphabet e) (at e) (depth e) c.fault5.ensures
-    (operands_short (bytes e) (alphabet e) (at e) (depth e) (whole e) _ (kind t.before) (known t.before) (other t) (rw (← c.before.before.arity-of.ensures.0) (lt-ltb _ _ c.before.if6.true)))
+    refused (bytes e) (alphabet e) (at e) (depth e) c.fault-then-depth-arity_of.ensures
+    (operands_short (bytes e) (alphabet e) (at e) (depth e) (whole e) _ (kind t.before) (known t.before) (other t) (rw (← c.before.before.arity_of.ensures.0) (lt-ltb _ _ c.before.if-depth-arity_of.true)))
 
-returns-7 : tie.Need-returns-7
-returns-7 c =
+returns : tie.Need-returns
+returns c =
     let t = c.before.before in
     let e = kind_read t.before in
-    let fine = operands_fine (bytes e) (alphabet e) (at e) (depth e) (whole e) _ (kind t.before) (known t.before) (other t) (rw (← c.before.arity-of.ensures.0) (le-ltb _ _ c.if6.false)) in
+    let fine = operands_fine (bytes e) (alphabet e) (at e) (depth e) (whole e) _ (kind t.before) (known t.before) (other t) (rw (← c.before.arity_of.ensures.0) (le-ltb _ _ c.if-depth-arity_of.false)) in
     let is = kind_is (bytes e) (alphabet e) (at e) (depth e) (whole e) _ (kind t.before) (known t.before) (other t) in
-    let read : ◌≡◌ {A = Found} (found_as none (item_at (bytes e) (at e))) (record { outcome = Accepted; kind = c.before.before.before.before.field.result; set = 0 }) = λ i. record { outcome = Accepted; kind = is.0 i; set = is.1 i } in
+    let read : ◌≡◌ {A = Found} (found_as none (item_at (bytes e) (at e))) (record { outcome = Accepted; kind = c.before.before.before.before.field-kind.result; set = 0 }) = λ i. record { outcome = Accepted; kind = is.0 i; set = is.1 i } in
     sym (ap (λ (o : Option ℕ). found_as o (item_at (bytes e) (at e))) fine ∙ read)
 
-pub item-at-spec : {M : Type 1} → statement M
-item-at-spec =
+pub item_at_spec : {M : Type 1} → statement M
+item_at_spec =
     tie.close
-    (tie.spec
-    add-is-cut
-    is-cut-requires
-    fault-requires
-    returns
-    field-requires
-    fault-requires-2
-    returns-2
-    add-is-cut-2
-    is-cut-requires-2
-    fault-requires-3
-    returns-3
-    add-events
-    events-requires
-    is-strange-requires
-    fault-requires-4
-    returns-4
-    returns-5
-    cast-operator
-    arity-of-requires
-    fault-requires-5
-    returns-6
-    returns-7)
+    (tie.spec overflow_add-at is_cut-requires fault-requires returns-then-is_cut field-kind-requires fault-requires-then-kind-gt4 returns-then-kind-gt4 overflow_add-at-then-kind-eq1 is_cut-requires-then-kind-eq1 fault-requires-then-is_cut-2 returns-then-is_cut-2 overflow_add-at-then-kind-eq1-2 events-set-requires is_strange-requires fault-requires-then-is_strange returns-then-is_strange returns-then-kind-eq1 overflow_cast-operator arity_of-requires fault-requires-then-depth-arity_of returns-then-depth-arity_of returns)

@@ -5,11 +5,11 @@ use borrow.Author.Tests.{eq-eqb, ne_eqb}
 use Rattle.item.proofs.width_of.Statement.{statement}
 use Rattle.item.proofs.width_of.Tie as tie
 
-returns : tie.Need-returns
-returns c = sym (ap (λ (t : Bool). cond t 34 3) (eq-eqb _ _ c.if1.true))
+returns-then-kind-eq1 : tie.Need-returns-then-kind-eq1
+returns-then-kind-eq1 c = sym (ap (λ (t : Bool). cond t 34 3) (eq-eqb _ _ c.if-kind-eq1.true))
 
-returns-2 : tie.Need-returns-2
-returns-2 c = sym (ap (λ (t : Bool). cond t 34 3) (ne_eqb _ _ c.if1.false))
+returns-else-kind-eq1 : tie.Need-returns-else-kind-eq1
+returns-else-kind-eq1 c = sym (ap (λ (t : Bool). cond t 34 3) (ne_eqb _ _ c.if-kind-eq1.false))
 
-pub width-of-spec : {M : Type 1} → statement M
-width-of-spec = tie.close (tie.spec returns returns-2)
+pub width_of_spec : {M : Type 1} → statement M
+width_of_spec = tie.close (tie.spec returns-then-kind-eq1 returns-else-kind-eq1)

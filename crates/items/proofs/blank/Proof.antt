@@ -8,5 +8,5 @@ returns : tie.Need-returns
 unfolding padded
 returns c = refl
 
-pub blank-spec : {M : Type 1} → statement M
-blank-spec = tie.close (tie.spec returns)
+pub blank_spec : {M : Type 1} → statement M
+blank_spec = tie.close (tie.spec returns)

@@ -10,5 +10,5 @@ blank-requires c κs = search rules
 returns : tie.Need-returns
 returns c = λ i. record { outcome = Refused c.before.args.n; items = c.blank.ensures i }
 
-pub none-read-spec : {M : Type 1} → statement M
-none-read-spec = tie.close (tie.spec blank-requires returns)
+pub none_read_spec : {M : Type 1} → statement M
+none_read_spec = tie.close (tie.spec blank-requires returns)

@@ -5,18 +5,18 @@ use Rattle.leaves.proofs.Bytes.{starts_at, starts_past}
 use Rattle.leaves.proofs.is_at.Statement.{statement}
 use Rattle.leaves.proofs.is_at.Tie as tie
 
-shared-slice-read-result : tie.Need-shared-slice-read-result
-shared-slice-read-result c = search rules
+bounds-text-at : tie.Need-bounds-text-at
+bounds-text-at c = search rules
 
-returns : tie.Need-returns
-returns c =
+returns-then-at-text : tie.Need-returns-then-at-text
+returns-then-at-text c =
     let args = c.before.before.args in
     starts_at args.byte args.text.now args.at (omega arith)
 
-returns-2 : tie.Need-returns-2
-returns-2 c =
+returns-else-at-text : tie.Need-returns-else-at-text
+returns-else-at-text c =
     let args = c.before.args in
     starts_past args.byte args.text.now args.at (omega arith)
 
-pub is-at-spec : {M : Type 1} → statement M
-is-at-spec = tie.close (tie.spec shared-slice-read-result returns returns-2)
+pub is_at_spec : {M : Type 1} → statement M
+is_at_spec = tie.close (tie.spec bounds-text-at returns-then-at-text returns-else-at-text)

@@ -15,68 +15,57 @@ use borrow.Author.Rules.{rules}
 use Rattle.leaves.proofs.leaf_end.Statement.{statement}
 use Rattle.leaves.proofs.leaf_end.Tie as tie
 
-returns : tie.Need-returns
-returns c =
+returns-then-text-at : tie.Need-returns-then-text-at
+returns-then-text-at c =
     let args = c.before.before.args in
     ap leaf (drop_of_length-le args.text.now {i = args.at} (omega arith))
 
-shared-slice-read-c : tie.Need-shared-slice-read-c
-shared-slice-read-c c = search rules
+bounds-text-at : tie.Need-bounds-text-at
+bounds-text-at c = search rules
 
-is-letter-requires : tie.Need-is-letter-requires
-is-letter-requires c κs = search rules
+is_letter-requires : tie.Need-is_letter-requires
+is_letter-requires c κs = search rules
 
-add-t9 : tie.Need-overflow-add-t9
-add-t9 c = search rules
+overflow_add-result : tie.Need-overflow_add-result
+overflow_add-result c = search rules
 
-returns-2 : tie.Need-returns-2
-returns-2 c =
+returns-then-is_letter : tie.Need-returns-then-is_letter
+returns-then-is_letter c =
     let args = c.before.before.before.before.before.args in
-    let letter = sym c.before.is-letter.ensures ∙ c.if2.true in
+    let letter = sym c.before.is_letter.ensures ∙ c.if-is_letter.true in
     (one_of (event_of (place args.text.now args.at) ∷ []), leaf_letter args.text.now args.at (omega arith) letter, omega arith, omega arith)
 
-add-t10 : tie.Need-overflow-add-t10
-add-t10 c = search rules
+overflow_add-result-then-c-eq48 : tie.Need-overflow_add-result-then-c-eq48
+overflow_add-result-then-c-eq48 c = search rules
 
-returns-3 : tie.Need-returns-3
-returns-3 c =
+returns-then-c-eq48 : tie.Need-returns-then-c-eq48
+returns-then-c-eq48 c =
     let args = c.before.before.before.before.before.before.args in
-    let letter = sym c.before.before.is-letter.ensures ∙ c.before.if2.false in
-    (empty_string, leaf_zero args.text.now args.at (omega arith) letter (eq-eqb _ _ c.if3.true), omega arith, omega arith)
+    let letter = sym c.before.before.is_letter.ensures ∙ c.before.if-is_letter.false in
+    (empty_string, leaf_zero args.text.now args.at (omega arith) letter (eq-eqb _ _ c.if-c-eq48.true), omega arith, omega arith)
 
-add-set-end : tie.Need-overflow-add-set-end
-add-set-end c = search rules
+overflow_add-at : tie.Need-overflow_add-at
+overflow_add-at c = search rules
 
-set-end-requires : tie.Need-set-end-requires
-set-end-requires c κs = search rules
+set_end-requires : tie.Need-set_end-requires
+set_end-requires c κs = search rules
 
-returns-4 : tie.Need-returns-4
-returns-4 c =
+returns-then-c-eq91 : tie.Need-returns-then-c-eq91
+returns-then-c-eq91 c =
     let args = c.before.before.before.before.before.before.before.before.args in
     let l = args.text.now in
-    let letter = sym c.before.before.before.before.is-letter.ensures ∙ c.before.before.before.if2.false in
-    let zero = ne_eqb _ _ c.before.before.if3.false in
-    let set = leaf_set l args.at true (omega arith) letter zero (eq-eqb _ _ c.before.if4.true) in
-    subst (λ (o : Outcome). Ends o l args.at c.set-end.result) (sym set) (ends_before (in_set (drop (args.at + 1) l)) l args.at c.set-end.result c.set-end.ensures)
+    let letter = sym c.before.before.before.before.is_letter.ensures ∙ c.before.before.before.if-is_letter.false in
+    let zero = ne_eqb _ _ c.before.before.if-c-eq48.false in
+    let set = leaf_set l args.at true (omega arith) letter zero (eq-eqb _ _ c.before.if-c-eq91.true) in
+    subst (λ (o : Outcome). Ends o l args.at c.set_end.result) (sym set) (ends_before (in_set (drop (args.at + 1) l)) l args.at c.set_end.result c.set_end.ensures)
 
-returns-5 : tie.Need-returns-5
-returns-5 c =
+returns : tie.Need-returns
+returns c =
     let args = c.before.before.before.before.before.before.before.args in
-    let letter = sym c.before.before.before.is-letter.ensures ∙ c.before.before.if2.false in
-    leaf_set args.text.now args.at false (omega arith) letter (ne_eqb _ _ c.before.if3.false) (ne_eqb _ _ c.if4.false)
+    let letter = sym c.before.before.before.is_letter.ensures ∙ c.before.before.if-is_letter.false in
+    leaf_set args.text.now args.at false (omega arith) letter (ne_eqb _ _ c.before.if-c-eq48.false) (ne_eqb _ _ c.if-c-eq91.false)
 
-pub leaf-end-spec : {M : Type 1} → statement M
-leaf-end-spec =
+pub leaf_end_spec : {M : Type 1} → statement M
+leaf_end_spec =
     tie.close
-    (tie.spec
-    returns
-    shared-slice-read-c
-    is-letter-requires
-    add-t9
-    returns-2
-    add-t10
-    returns-3
-    add-set-end
-    set-end-requires
-    returns-4
-    returns-5)
+    (tie.spec returns-then-text-at bounds-text-at is_letter-requires overflow_add-result returns-then-is_letter overflow_add-result-then-c-eq48 returns-then-c-eq48 overflow_add-at set_end-requires returns-then-c-eq91 returns)

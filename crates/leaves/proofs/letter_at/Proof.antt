@@ -6,22 +6,22 @@ use Rattle.leaves.proofs.Bytes.{letter_at, letter_past}
 use Rattle.leaves.proofs.letter_at.Statement.{statement}
 use Rattle.leaves.proofs.letter_at.Tie as tie
 
-shared-slice-read-is-letter : tie.Need-shared-slice-read-is-letter
-shared-slice-read-is-letter c = search rules
+bounds-text-at : tie.Need-bounds-text-at
+bounds-text-at c = search rules
 
-is-letter-requires : tie.Need-is-letter-requires
-is-letter-requires c κs = search rules
+is_letter-requires : tie.Need-is_letter-requires
+is_letter-requires c κs = search rules
 
-returns : tie.Need-returns
-returns c =
+returns-then-at-text : tie.Need-returns-then-at-text
+returns-then-at-text c =
     let args = c.before.before.before.before.args in
-    c.is-letter.ensures ∙ letter_at args.text.now args.at (omega arith)
+    c.is_letter.ensures ∙ letter_at args.text.now args.at (omega arith)
 
-returns-2 : tie.Need-returns-2
-returns-2 c =
+returns-else-at-text : tie.Need-returns-else-at-text
+returns-else-at-text c =
     let args = c.before.before.args in
     letter_past args.text.now args.at (omega arith)
 
-pub letter-at-spec : {M : Type 1} → statement M
-letter-at-spec =
-    tie.close (tie.spec shared-slice-read-is-letter is-letter-requires returns returns-2)
+pub letter_at_spec : {M : Type 1} → statement M
+letter_at_spec =
+    tie.close (tie.spec bounds-text-at is_letter-requires returns-then-at-text returns-else-at-text)

@@ -10,26 +10,26 @@ use borrow.Author.Rules.{rules}
 use Rattle.leaves.proofs.listing_end.Statement.{statement}
 use Rattle.leaves.proofs.listing_end.Tie as tie
 
-past-letters-requires : tie.Need-past-letters-requires
-past-letters-requires c κs = search rules
+past_letters-end-requires : tie.Need-past_letters-end-requires
+past_letters-end-requires c κs = search rules
 
-is-at-requires : tie.Need-is-at-requires
-is-at-requires c κs = search rules
+is_at-requires : tie.Need-is_at-requires
+is_at-requires c κs = search rules
 
-add-t6 : tie.Need-overflow-add-t6
-add-t6 c = search rules
+overflow_add-result : tie.Need-overflow_add-result
+overflow_add-result c = search rules
 
-returns : tie.Need-returns
-returns c tree =
+returns-then-is_at : tie.Need-returns-then-is_at
+returns-then-is_at c tree =
     let args = c.before.before.before.before.args in
-    let n = c.before.before.past-letters.result in
-    let past = c.before.before.past-letters.ensures in
-    let found = sym c.before.is_at.ensures ∙ c.if1.true in
+    let n = c.before.before.past_letters-end.result in
+    let past = c.before.before.past_letters-end.ensures in
+    let found = sym c.before.is_at.ensures ∙ c.if-is_at.true in
     (tree (letters (drop args.at args.text.now)), listing_next tree _ args.text.now n past.0 found, omega (arith, past.1), omega (arith, starts_within closing_set args.text.now n found))
 
-returns-2 : tie.Need-returns-2
-returns-2 c tree = listing_broken tree _ _ c.before.before.past-letters.ensures.0 (sym c.before.is_at.ensures ∙ c.if1.false)
+returns-else-is_at : tie.Need-returns-else-is_at
+returns-else-is_at c tree = listing_broken tree _ _ c.before.before.past_letters-end.ensures.0 (sym c.before.is_at.ensures ∙ c.if-is_at.false)
 
-pub listing-end-spec : {M : Type 1} → statement M
-listing-end-spec =
-    tie.close (tie.spec past-letters-requires is-at-requires add-t6 returns returns-2)
+pub listing_end_spec : {M : Type 1} → statement M
+listing_end_spec =
+    tie.close (tie.spec past_letters-end-requires is_at-requires overflow_add-result returns-then-is_at returns-else-is_at)

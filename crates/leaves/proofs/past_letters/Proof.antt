@@ -11,44 +11,44 @@ use borrow.Author.Rules.{rules}
 use Rattle.leaves.proofs.past_letters.Statement.{statement}
 use Rattle.leaves.proofs.past_letters.Tie as tie
 
-abbrev invariant-loop : tie.invariant-loop
-invariant-loop text from at₀ at = (past_letters (drop at text) ≡ past_letters (drop from text)) × (from ≤ at) × (at ≤ length text)
+abbrev invariant-loop-at : tie.invariant-loop-at
+invariant-loop-at text from at₀ at = (past_letters (drop at text) ≡ past_letters (drop from text)) × (from ≤ at) × (at ≤ length text)
 
-abbrev decreases-loop : tie.decreases-loop
-decreases-loop text from at₀ at = length text - at
+abbrev decreases-loop-at : tie.decreases-loop-at
+decreases-loop-at text from at₀ at = length text - at
 
-loop-holds : tie.Need-loop-init invariant-loop decreases-loop
-loop-holds c = (refl, omega arith, c.before.requires)
+loop-at-init : tie.Need-loop-at-init invariant-loop-at decreases-loop-at
+loop-at-init c = (refl, omega arith, c.before.requires)
 
-letter-at-requires : tie.Need-letter-at-requires invariant-loop decreases-loop
-letter-at-requires c κs = search rules
+letter_at-requires : tie.Need-letter_at-requires invariant-loop-at decreases-loop-at
+letter_at-requires c κs = search rules
 
-abbrev text : tie.Then1 invariant-loop decreases-loop → List ℕ
+abbrev text : tie.In-loop-at invariant-loop-at decreases-loop-at → List ℕ
 text c = c.before.before.before.before.args.text.now
 
-letter : (c : tie.Then1 invariant-loop decreases-loop) → starts_with_letter (drop c.before.before.loop.at (text c)) ≡ true
-letter c = sym c.before.letter_at.ensures ∙ c.if1.true
+letter : (c : tie.In-loop-at invariant-loop-at decreases-loop-at) → starts_with_letter (drop c.before.before.loop-at.at (text c)) ≡ true
+letter c = sym c.before.letter_at.ensures ∙ c.loop-at-test.true
 
-within : (c : tie.Then1 invariant-loop decreases-loop) → c.before.before.loop.at < length (text c)
-within c = letter_within (text c) c.before.before.loop.at (letter c)
+within : (c : tie.In-loop-at invariant-loop-at decreases-loop-at) → c.before.before.loop-at.at < length (text c)
+within c = letter_within (text c) c.before.before.loop-at.at (letter c)
 
-add_at : tie.Need-overflow-add-at invariant-loop decreases-loop
-add_at c = omega (arith, within c)
+overflow_add-at : tie.Need-overflow_add-at invariant-loop-at decreases-loop-at
+overflow_add-at c = omega (arith, within c)
 
-loop-less : tie.Need-loop-smaller invariant-loop decreases-loop
-loop-less c = omega (arith, within c)
+loop-at-smaller : tie.Need-loop-at-smaller invariant-loop-at decreases-loop-at
+loop-at-smaller c = omega (arith, within c)
 
-loop-again : tie.Need-loop-preserved invariant-loop decreases-loop
-loop-again c =
-    let inv = c.before.before.loop.invariant in
-    (past_more (text c) c.before.before.loop.at (letter c) ∙ inv.0, omega arith, omega (arith, within c))
+loop-at-preserved : tie.Need-loop-at-preserved invariant-loop-at decreases-loop-at
+loop-at-preserved c =
+    let inv = c.before.before.loop-at.invariant in
+    (past_more (text c) c.before.before.loop-at.at (letter c) ∙ inv.0, omega arith, omega (arith, within c))
 
-returns : tie.Need-returns invariant-loop decreases-loop
+returns : tie.Need-returns invariant-loop-at decreases-loop-at
 returns c =
-    let inv = c.before.before.loop.invariant in
-    (sym (past_none _ (sym c.before.letter_at.ensures ∙ c.if1.false)) ∙ inv.0, inv.1, inv.2)
+    let inv = c.before.before.loop-at.invariant in
+    (sym (past_none _ (sym c.before.letter_at.ensures ∙ c.loop-at-test.false)) ∙ inv.0, inv.1, inv.2)
 
-pub past-letters-spec : {M : Type 1} → statement M
-past-letters-spec =
+pub past_letters_spec : {M : Type 1} → statement M
+past_letters_spec =
     tie.close
-    (tie.spec invariant-loop decreases-loop loop-holds letter-at-requires add_at loop-less loop-again returns)
+    (tie.spec invariant-loop-at decreases-loop-at loop-at-init letter_at-requires overflow_add-at loop-at-smaller loop-at-preserved returns)

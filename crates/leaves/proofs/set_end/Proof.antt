@@ -12,40 +12,34 @@ use borrow.Author.Rules.{rules}
 use Rattle.leaves.proofs.set_end.Statement.{statement}
 use Rattle.leaves.proofs.set_end.Tie as tie
 
-is-at-requires : tie.Need-is-at-requires
-is-at-requires c κs = search rules
+is_at-requires : tie.Need-is_at-requires
+is_at-requires c κs = search rules
 
-add-listing-end : tie.Need-overflow-add-listing-end
-add-listing-end c = search rules
+overflow_add-at : tie.Need-overflow_add-at
+overflow_add-at c = search rules
 
-listing-end-requires : tie.Need-listing-end-requires
-listing-end-requires c κs =
+listing_end-requires : tie.Need-listing_end-requires
+listing_end-requires c κs =
     let args = c.before.before.before.args in
-    omega (arith, starts_within caret args.text.now args.at (sym c.before.is_at.ensures ∙ c.if1.true))
+    omega (arith, starts_within caret args.text.now args.at (sym c.before.is_at.ensures ∙ c.if-is_at.true))
+
+returns-then-is_at : tie.Need-returns-then-is_at
+returns-then-is_at c =
+    let args = c.before.before.before.before.args in
+    let l = args.text.now in
+    let found = sym c.before.before.is_at.ensures ∙ c.before.if-is_at.true in
+    subst (λ (o : Outcome). Ends o l args.at c.listing_end.result) (sym (set_caret l args.at found)) (ends_before (listing noneOf (drop (args.at + 1) l)) l args.at c.listing_end.result (c.listing_end.ensures noneOf))
+
+listing_end-requires-2 : tie.Need-listing_end-requires-2
+listing_end-requires-2 c κs = search rules
 
 returns : tie.Need-returns
 returns c =
     let args = c.before.before.before.before.args in
-    let l = args.text.now in
-    let found = sym c.before.before.is_at.ensures ∙ c.before.if1.true in
-    subst (λ (o : Outcome). Ends o l args.at c.listing-end.result) (sym (set_caret l args.at found)) (ends_before (listing noneOf (drop (args.at + 1) l)) l args.at c.listing-end.result (c.listing-end.ensures noneOf))
+    let other = sym c.before.before.is_at.ensures ∙ c.before.if-is_at.false in
+    subst (λ (o : Outcome). Ends o args.text.now args.at c.listing_end-2.result) (sym (set_plain _ other)) (c.listing_end-2.ensures one_of)
 
-listing-end-requires-2 : tie.Need-listing-end-requires-2
-listing-end-requires-2 c κs = search rules
-
-returns-2 : tie.Need-returns-2
-returns-2 c =
-    let args = c.before.before.before.before.args in
-    let other = sym c.before.before.is_at.ensures ∙ c.before.if1.false in
-    subst (λ (o : Outcome). Ends o args.text.now args.at c.listing-end2.result) (sym (set_plain _ other)) (c.listing-end2.ensures one_of)
-
-pub set-end-spec : {M : Type 1} → statement M
-set-end-spec =
+pub set_end_spec : {M : Type 1} → statement M
+set_end_spec =
     tie.close
-    (tie.spec
-    is-at-requires
-    add-listing-end
-    listing-end-requires
-    returns
-    listing-end-requires-2
-    returns-2)
+    (tie.spec is_at-requires overflow_add-at listing_end-requires returns-then-is_at listing_end-requires-2 returns)

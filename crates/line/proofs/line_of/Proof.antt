@@ -20,7 +20,7 @@ arm : {line made : Line} {a b : Answer} → line ≡ made → made ≡ line_arra
 arm e t l q = (e ∙ t ∙ ap (λ a. line_array (answer_text a)) (sym q), rw e l)
 
 -- the line before its end
-so_far : (c : tie.At-match-branch) → (c.match.line ≡ line_array (answer_text c.before.args.a)) × (c.match.line.used < 128)
+so_far : (c : tie.Joined-a) → (c.match-a.line ≡ line_array (answer_text c.before.args.a)) × (c.match-a.line.used < 128)
 so_far c =
     ⊎_elim
     (λ w.
@@ -28,43 +28,31 @@ so_far c =
     arm w.6 h.0 (omega (arith, h.1, ap (λ (r : Line). r.used) h.0)) w.1.given.1)
     (⊎_elim (λ w. arm w.5 w.4.ensures.0 w.4.ensures.1 w.1.given.1)
     (λ w. arm w.5 w.4.ensures.0 w.4.ensures.1 w.1.given.1))
-    c.match.branch
+    c.match-a.branch
 
-enum-known-a : tie.Need-enum-known-a
-enum-known-a c = search rules
+enum_known-a : tie.Need-enum_known-a
+enum_known-a c = search rules
 
 blank-requires : tie.Need-blank-requires
 blank-requires c κs = search rules
 
-slice-aggregate-with-count : tie.Need-slice-aggregate-with-count
-slice-aggregate-with-count c = search rules
+with_count-line-requires : tie.Need-with_count-line-requires
+with_count-line-requires c κs = search rules
 
-with-count-requires : tie.Need-with-count-requires
-with-count-requires c κs = search rules
+enum_known-a-in-Verified-1 : tie.Need-enum_known-a-in-Verified-1
+enum_known-a-in-Verified-1 c = search rules
 
-enum-known-a-2 : tie.Need-enum-known-a-2
-enum-known-a-2 c = search rules
+with_fields-line-requires : tie.Need-with_fields-line-requires
+with_fields-line-requires c κs = search rules
 
-slice-aggregate-with-fields : tie.Need-slice-aggregate-with-fields
-slice-aggregate-with-fields c = search rules
+enum_known-a-in-Inconclusive-1 : tie.Need-enum_known-a-in-Inconclusive-1
+enum_known-a-in-Inconclusive-1 c = search rules
 
-with-fields-requires : tie.Need-with-fields-requires
-with-fields-requires c κs = search rules
+with_fields-line-requires-in-Inconclusive : tie.Need-with_fields-line-requires-in-Inconclusive
+with_fields-line-requires-in-Inconclusive c κs = search rules
 
-enum-known-a-3 : tie.Need-enum-known-a-3
-enum-known-a-3 c = search rules
-
-slice-aggregate-with-fields-2 : tie.Need-slice-aggregate-with-fields-2
-slice-aggregate-with-fields-2 c = search rules
-
-with-fields-requires-2 : tie.Need-with-fields-requires-2
-with-fields-requires-2 c κs = search rules
-
-slice-aggregate-with-text : tie.Need-slice-aggregate-with-text
-slice-aggregate-with-text c = search rules
-
-with-text-requires : tie.Need-with-text-requires
-with-text-requires c κs =
+with_text-requires : tie.Need-with_text-requires
+with_text-requires c κs =
     let e = so_far c.before in
     (answer_text c.before.before.args.a, e.0, omega (arith, e.1, ap (λ (r : Line). r.used) e.0))
 
@@ -73,23 +61,10 @@ unfolding line_of
 returns c =
     let e = so_far c.before.before in
     let a = c.before.before.before.args.a in
-    let all = c.with-text.ensures (answer_text a) e.0 in
+    let all = c.with_text.ensures (answer_text a) e.0 in
     (all, omega (arith, e.1, ap (λ (r : Line). r.used) e.0, ap (λ (r : Line). r.used) all, length-append (answer_text a) (text "\n")))
 
-pub line-of-spec : {M : Type 1} → statement M
-line-of-spec =
+pub line_of_spec : {M : Type 1} → statement M
+line_of_spec =
     tie.close
-    (tie.spec
-    enum-known-a
-    blank-requires
-    slice-aggregate-with-count
-    with-count-requires
-    enum-known-a-2
-    slice-aggregate-with-fields
-    with-fields-requires
-    enum-known-a-3
-    slice-aggregate-with-fields-2
-    with-fields-requires-2
-    slice-aggregate-with-text
-    with-text-requires
-    returns)
+    (tie.spec enum_known-a blank-requires with_count-line-requires enum_known-a-in-Verified-1 with_fields-line-requires enum_known-a-in-Inconclusive-1 with_fields-line-requires-in-Inconclusive with_text-requires returns)

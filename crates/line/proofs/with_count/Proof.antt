@@ -12,22 +12,22 @@ use Rattle.line.proofs.with_count.Statement.{statement}
 use Rattle.line.proofs.with_count.Tie as tie
 
 -- the digits that are written
-written : (c : tie.After-decimal) → take c.decimal.result c.decimal.new.1.0 ≡ decimal c.before.before.before.args.n
+written : (c : tie.After-decimal-k) → take c.decimal-k.result c.decimal-k.new.1.0 ≡ decimal c.before.before.before.args.n
 written c =
-    let e = c.decimal.ensures in
-    e.1.1 ∙ decimal_digits c.decimal.result c.before.before.before.args.n (omega arith) e.1.0
+    let e = c.decimal-k.ensures in
+    e.1.1 ∙ decimal_digits c.decimal-k.result c.before.before.before.args.n (omega arith) e.1.0
 
-decimal-requires : tie.Need-decimal-requires
-decimal-requires c κs = search rules
+decimal-k-requires : tie.Need-decimal-k-requires
+decimal-k-requires c κs = search rules
 
-array-share-prefix-digits : tie.Need-array-share-prefix-digits
-array-share-prefix-digits c = search rules
+slice_bounds-digits-end : tie.Need-slice_bounds-digits-end
+slice_bounds-digits-end c = search rules
 
-slice-aggregate-with-field : tie.Need-slice-aggregate-with-field
-slice-aggregate-with-field c = search rules
+slice_bounds-with_field-end : tie.Need-slice_bounds-with_field-end
+slice_bounds-with_field-end c = search rules
 
-with-field-requires : tie.Need-with-field-requires
-with-field-requires c κs =
+with_field-requires : tie.Need-with_field-requires
+with_field-requires c κs =
     let start = c.before.before.before.before in
     let short = decimal_short start.args.n (omega arith) in
     (start.requires.0, start.requires.1, rw (written c.before) (omega arith))
@@ -35,14 +35,9 @@ with-field-requires c κs =
 returns : tie.Need-returns
 returns c l e =
     let text = c.before.before.before.before.before.args.text.now in
-    c.with-field.ensures l e ∙ ap (λ (xs : List ℕ). line_array (l ++ text ++ xs)) (written c.before.before)
+    c.with_field.ensures l e ∙ ap (λ (xs : List ℕ). line_array (l ++ text ++ xs)) (written c.before.before)
 
-pub with-count-spec : {M : Type 1} → statement M
-with-count-spec =
+pub with_count_spec : {M : Type 1} → statement M
+with_count_spec =
     tie.close
-    (tie.spec
-    decimal-requires
-    array-share-prefix-digits
-    slice-aggregate-with-field
-    with-field-requires
-    returns)
+    (tie.spec decimal-k-requires slice_bounds-digits-end slice_bounds-with_field-end with_field-requires returns)

@@ -12,36 +12,31 @@ use Rattle.line.proofs.with_set.Statement.{statement}
 use Rattle.line.proofs.with_set.Tie as tie
 
 -- the digits that are written
-written : (c : tie.After-hex) → take c.hex.result c.hex.new.1.1.0 ≡ hexadecimal c.before.before.before.args.m
+written : (c : tie.After-hex-k) → take c.hex-k.result c.hex-k.new.1.1.0 ≡ hexadecimal c.before.before.before.args.m
 written c =
-    let e = c.hex.ensures in
-    e.1.1 ∙ hexadecimal_digits c.hex.result c.before.before.before.args.m (omega arith) e.1.0
+    let e = c.hex-k.ensures in
+    e.1.1 ∙ hexadecimal_digits c.hex-k.result c.before.before.before.args.m (omega arith) e.1.0
 
-hex-requires : tie.Need-hex-requires
-hex-requires c κs = search rules
+hex-k-requires : tie.Need-hex-k-requires
+hex-k-requires c κs = search rules
 
-array-share-prefix-digits : tie.Need-array-share-prefix-digits
-array-share-prefix-digits c = search rules
+slice_bounds-digits-end : tie.Need-slice_bounds-digits-end
+slice_bounds-digits-end c = search rules
 
-slice-aggregate-with-field : tie.Need-slice-aggregate-with-field
-slice-aggregate-with-field c = search rules
+slice_bounds-with_field-end : tie.Need-slice_bounds-with_field-end
+slice_bounds-with_field-end c = search rules
 
-with-field-requires : tie.Need-with-field-requires
-with-field-requires c κs =
+with_field-requires : tie.Need-with_field-requires
+with_field-requires c κs =
     let start = c.before.before.before.before in
     (start.requires.0, start.requires.1, rw (written c.before) (omega arith))
 
 returns : tie.Need-returns
 returns c l e =
     let text = c.before.before.before.before.before.args.text.now in
-    c.with-field.ensures l e ∙ ap (λ (xs : List ℕ). line_array (l ++ text ++ xs)) (written c.before.before)
+    c.with_field.ensures l e ∙ ap (λ (xs : List ℕ). line_array (l ++ text ++ xs)) (written c.before.before)
 
-pub with-set-spec : {M : Type 1} → statement M
-with-set-spec =
+pub with_set_spec : {M : Type 1} → statement M
+with_set_spec =
     tie.close
-    (tie.spec
-    hex-requires
-    array-share-prefix-digits
-    slice-aggregate-with-field
-    with-field-requires
-    returns)
+    (tie.spec hex-k-requires slice_bounds-digits-end slice_bounds-with_field-end with_field-requires returns)

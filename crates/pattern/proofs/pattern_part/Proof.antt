@@ -26,115 +26,99 @@ use Rattle.pattern.proofs.pattern_part.Statement.{statement}
 use Rattle.pattern.proofs.pattern_part.Tie as tie
 
 -- the bytes, and what the reader said of them, where it has no refusal
-abbrev bytes : tie.After-enum-told2 → List ℕ
+abbrev bytes : tie.In-Accepted → List ℕ
 bytes c = c.before.before.before.before.before.before.args.plan.now
 
-passed : (c : tie.After-enum-told2) → first readable (bytes c) ≡ none
-passed c = read_accepted (bytes c) (ap (λ (r : PatternRead). r.reading.outcome) (sym c.before.before.before.read-pattern.ensures.0) ∙ c.enum-told2.given.1)
+passed : (c : tie.In-Accepted) → first readable (bytes c) ≡ none
+passed c = read_accepted (bytes c) (ap (λ (r : PatternRead). r.reading-1.outcome) (sym c.before.before.before.read_pattern-read.ensures.0) ∙ c.enum_told-in-Accepted-1.given.1)
 
-read : (c : tie.After-enum-told2) → c.before.before.before.read-pattern.result ≡ accepted (bytes c)
-read c = c.before.before.before.read-pattern.ensures.0 ∙ answer (bytes c) none (passed c)
+read : (c : tie.In-Accepted) → c.before.before.before.read_pattern-read.result-1 ≡ accepted (bytes c)
+read c = c.before.before.before.read_pattern-read.ensures.0 ∙ answer (bytes c) none (passed c)
 
-starts : (c : tie.After-enum-told2) → c.before.before.before.read-pattern.result.reading.pattern ≤ length (bytes c)
+starts : (c : tie.In-Accepted) → c.before.before.before.read_pattern-read.result-1.reading-1.pattern ≤ length (bytes c)
 starts c =
-    let e : c.before.before.before.read-pattern.result.reading.pattern ≡ pattern_at (head_of (bytes c)) = ap (λ (r : PatternRead). r.reading.pattern) (read c) in
+    let e : c.before.before.before.read_pattern-read.result-1.reading-1.pattern ≡ pattern_at (head_of (bytes c)) = ap (λ (r : PatternRead). r.reading-1.pattern) (read c) in
     omega (arith, pattern_there (bytes c) (before_items (bytes c) (passed c)))
 
-not_empty : (c : tie.After-enum-told2) → 1 ≤ length (bytes c)
+not_empty : (c : tie.In-Accepted) → 1 ≤ length (bytes c)
 not_empty c = omega (arith, pattern_there (bytes c) (before_items (bytes c) (passed c)))
 
 -- refusal 16 goes by the pattern of the plan
-over : (c : tie.After-few-states) → c.few-states.result ≡ not (too_many_states (bytes c.before.before.before))
+over : (c : tie.After-few_states) → c.few_states.result-1 ≡ not (too_many_states (bytes c.before.before.before))
 over c =
     let e = c.before.before.before in
-    c.few-states.ensures
-    ∙ ap (λ (r : PatternRead). not (over_limit (states_of (pattern_of (items_on r.items)) r.reading.plan.alphabet))) (read e)
+    c.few_states.ensures
+    ∙ ap (λ (r : PatternRead). not (over_limit (states_of (pattern_of (items_on r.items-1)) r.reading-1.plan.alphabet))) (read e)
     ∙ ap (λ (l : List Item). not (over_limit (states_of (pattern_of l) (plan_of (bytes e)).alphabet))) (items_kept (items_of_plan (bytes e)))
 
-read-pattern-requires : tie.Need-read-pattern-requires
-read-pattern-requires c κs = search rules
+read_pattern-read-requires : tie.Need-read_pattern-read-requires
+read_pattern-read-requires c κs = search rules
 
-enum_told : tie.Need-enum-told
-enum_told c = search rules
+enum_told-1 : tie.Need-enum_told-1
+enum_told-1 c = search rules
 
-sub-result : tie.Need-overflow-sub-result
-sub-result c = search rules
+slice_bounds-result-count : tie.Need-slice_bounds-result-count
+slice_bounds-result-count c = search rules
 
-part-result-start : tie.Need-slice-bounds-result-start
-part-result-start c = search rules
+slice_bounds-result-start : tie.Need-slice_bounds-result-start
+slice_bounds-result-start c = search rules
 
-part-result-end : tie.Need-slice-bounds-result-end
-part-result-end c = search rules
+slice_bounds-result-end : tie.Need-slice_bounds-result-end
+slice_bounds-result-end c = search rules
 
-enum-told-2 : tie.Need-enum-told-2
-enum-told-2 c = search rules
+enum_told-in-Accepted : tie.Need-enum_told-in-Accepted
+enum_told-in-Accepted c = search rules
 
-few-states-requires : tie.Need-few-states-requires
-few-states-requires c κs = subst (λ (r : PatternRead). Postfix r.items) (sym (read c.before.before)) (plan_postfix (bytes c.before.before) (passed c.before.before))
+few_states-requires : tie.Need-few_states-requires
+few_states-requires c κs = subst (λ (r : PatternRead). Postfix r.items-1) (sym (read c.before.before)) (plan_postfix (bytes c.before.before) (passed c.before.before))
 
-sub-result-2 : tie.Need-overflow-sub-result-2
-sub-result-2 c = omega (arith, starts c.before.before.before.before)
+slice_bounds-result-count-then-few_states : tie.Need-slice_bounds-result-count-then-few_states
+slice_bounds-result-count-then-few_states c = omega (arith, starts c.before.before.before.before)
 
-part-result-start-2 : tie.Need-slice-bounds-result-start-2
-part-result-start-2 c = search (rules, starts c.before.before.before.before)
+slice_bounds-result-start-then-few_states : tie.Need-slice_bounds-result-start-then-few_states
+slice_bounds-result-start-then-few_states c = search (rules, starts c.before.before.before.before)
 
-part-result-end-2 : tie.Need-slice-bounds-result-end-2
-part-result-end-2 c = search rules
+slice_bounds-result-end-then-few_states : tie.Need-slice_bounds-result-end-then-few_states
+slice_bounds-result-end-then-few_states c = search rules
 
 -- where the empty part begins is the contract's to tell: these hold of any byte near the beginning
-sub-result-3 : tie.Need-overflow-sub-result-3
-sub-result-3 c = omega (arith, not_empty c.before.before.before.before)
+slice_bounds-result-count-else-few_states : tie.Need-slice_bounds-result-count-else-few_states
+slice_bounds-result-count-else-few_states c = omega (arith, not_empty c.before.before.before.before)
 
-part-result-start-3 : tie.Need-slice-bounds-result-start-3
-part-result-start-3 c = omega (arith, not_empty c.before.before.before.before)
+slice_bounds-result-start-else-few_states : tie.Need-slice_bounds-result-start-else-few_states
+slice_bounds-result-start-else-few_states c = omega (arith, not_empty c.before.before.before.before)
 
-part-result-end-3 : tie.Need-slice-bounds-result-end-3
-part-result-end-3 c = omega (arith, not_empty c.before.before.before.before)
+slice_bounds-result-end-else-few_states : tie.Need-slice_bounds-result-end-else-few_states
+slice_bounds-result-end-else-few_states c = omega (arith, not_empty c.before.before.before.before)
 
-returns : tie.Need-returns
-returns c =
+returns-in-Refused : tie.Need-returns-in-Refused
+returns-in-Refused c =
     let b = c.before.before.before.before.before.before.before.args.plan.now in
-    let found = c.before.enum_told.given in
-    let e = refused_early b found.0.0 (read_refused b found.0.0 (ap (λ (r : PatternRead). r.reading.outcome) (sym c.before.before.before.before.read-pattern.ensures.0) ∙ found.1)) in
+    let found = c.before.enum_told-1.given in
+    let e = refused_early b found.0.0 (read_refused b found.0.0 (ap (λ (r : PatternRead). r.reading-1.outcome) (sym c.before.before.before.before.read_pattern-read.ensures.0) ∙ found.1)) in
     record { bytes = sym (part_is b (some found.0.0) e); block = refl; offset = omega (arith, start_is b (some found.0.0) e) }
 
-returns-2 : tie.Need-returns-2
-returns-2 c =
+returns-then-few_states : tie.Need-returns-then-few_states
+returns-then-few_states c =
     let e = c.before.before.before.before.before in
     let b = bytes e in
-    let at = e.before.before.before.read-pattern.result.reading.pattern in
-    let free = decided_by_states b (passed e) false (not-true _ (sym (over c.before.before) ∙ c.before.if1.true)) in
+    let at = e.before.before.before.read_pattern-read.result-1.reading-1.pattern in
+    let free = decided_by_states b (passed e) false (not-true _ (sym (over c.before.before) ∙ c.before.if-few_states.true)) in
     record {
       bytes =
-          take_all (length b - at) (drop at b) (le_of_eq (length-drop at b)) ∙ ap (λ (r : PatternRead). drop r.reading.pattern b) (read e)
+          take_all (length b - at) (drop at b) (le_of_eq (length-drop at b)) ∙ ap (λ (r : PatternRead). drop r.reading-1.pattern b) (read e)
           ∙ sym (part_is b none free);
       block = refl;
-      offset = omega (arith, ap (λ (r : PatternRead). r.reading.pattern) (read e), start_is b none free);
+      offset = omega (arith, ap (λ (r : PatternRead). r.reading-1.pattern) (read e), start_is b none free);
     }
 
-returns-3 : tie.Need-returns-3
-returns-3 c =
+returns-else-few_states : tie.Need-returns-else-few_states
+returns-else-few_states c =
     let e = c.before.before.before.before.before in
-    let over16 = decided_by_states (bytes e) (passed e) true (not-false _ (sym (over c.before.before) ∙ c.before.if1.false)) in
+    let over16 = decided_by_states (bytes e) (passed e) true (not-false _ (sym (over c.before.before) ∙ c.before.if-few_states.false)) in
     record { bytes = sym (part_is (bytes e) (some 16) over16); block = refl; offset = omega (arith, start_is (bytes e) (some 16) over16) }
 
-pub pattern-part-spec : {M : Type 1} → statement M
-pattern-part-spec =
+pub pattern_part_spec : {M : Type 1} → statement M
+pattern_part_spec =
     tie.close
-    (tie.spec
-    read-pattern-requires
-    enum_told
-    sub-result
-    part-result-start
-    part-result-end
-    enum-told-2
-    few-states-requires
-    sub-result-2
-    part-result-start-2
-    part-result-end-2
-    sub-result-3
-    part-result-start-3
-    part-result-end-3
-    returns
-    returns-2
-    returns-3)
+    (tie.spec read_pattern-read-requires enum_told-1 slice_bounds-result-count slice_bounds-result-start slice_bounds-result-end enum_told-in-Accepted few_states-requires slice_bounds-result-count-then-few_states slice_bounds-result-start-then-few_states slice_bounds-result-end-then-few_states slice_bounds-result-count-else-few_states slice_bounds-result-start-else-few_states slice_bounds-result-end-else-few_states returns-in-Refused returns-then-few_states returns-else-few_states)

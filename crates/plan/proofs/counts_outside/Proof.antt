@@ -5,42 +5,34 @@ use borrow.Author.Rules.{rules}
 use Rattle.plan.proofs.counts_outside.Statement.{statement}
 use Rattle.plan.proofs.counts_outside.Tie as tie
 
-is-outside-requires : tie.Need-is-outside-requires
-is-outside-requires c κs = search rules
+is_outside-jobs-requires : tie.Need-is_outside-jobs-requires
+is_outside-jobs-requires c κs = search rules
 
-is-outside-requires-2 : tie.Need-is-outside-requires-2
-is-outside-requires-2 c κs = search rules
+is_outside-nodes-requires : tie.Need-is_outside-nodes-requires
+is_outside-nodes-requires c κs = search rules
 
-is-outside-requires-3 : tie.Need-is-outside-requires-3
-is-outside-requires-3 c κs = search rules
+is_outside-steps-requires : tie.Need-is_outside-steps-requires
+is_outside-steps-requires c κs = search rules
 
-is-outside-requires-4 : tie.Need-is-outside-requires-4
-is-outside-requires-4 c κs = search rules
+is_outside-calls-requires : tie.Need-is_outside-calls-requires
+is_outside-calls-requires c κs = search rules
 
-is-outside-requires-5 : tie.Need-is-outside-requires-5
-is-outside-requires-5 c κs = search rules
+is_outside-accepts-requires : tie.Need-is_outside-accepts-requires
+is_outside-accepts-requires c κs = search rules
 
-is-outside-requires-6 : tie.Need-is-outside-requires-6
-is-outside-requires-6 c κs = search rules
+is_outside-channels-requires : tie.Need-is_outside-channels-requires
+is_outside-channels-requires c κs = search rules
 
-is-outside-requires-7 : tie.Need-is-outside-requires-7
-is-outside-requires-7 c κs = search rules
+is_outside-items-requires : tie.Need-is_outside-items-requires
+is_outside-items-requires c κs = search rules
 
 returns : tie.Need-returns
 unfolding counts_outside
 returns c =
     λ i.
-    c.before.before.before.before.before.before.is-outside.ensures i || (c.before.before.before.before.before.is-outside2.ensures i || (c.before.before.before.before.is-outside3.ensures i || (c.before.before.before.is-outside4.ensures i || (c.before.before.is-outside5.ensures i || (c.before.is-outside6.ensures i || c.is-outside7.ensures i)))))
+    c.before.before.before.before.before.before.is_outside-jobs.ensures i || (c.before.before.before.before.before.is_outside-nodes.ensures i || (c.before.before.before.before.is_outside-steps.ensures i || (c.before.before.before.is_outside-calls.ensures i || (c.before.before.is_outside-accepts.ensures i || (c.before.is_outside-channels.ensures i || c.is_outside-items.ensures i)))))
 
-pub counts-outside-spec : {M : Type 1} → statement M
-counts-outside-spec =
+pub counts_outside_spec : {M : Type 1} → statement M
+counts_outside_spec =
     tie.close
-    (tie.spec
-    is-outside-requires
-    is-outside-requires-2
-    is-outside-requires-3
-    is-outside-requires-4
-    is-outside-requires-5
-    is-outside-requires-6
-    is-outside-requires-7
-    returns)
+    (tie.spec is_outside-jobs-requires is_outside-nodes-requires is_outside-steps-requires is_outside-calls-requires is_outside-accepts-requires is_outside-channels-requires is_outside-items-requires returns)

@@ -19,29 +19,29 @@ use Rattle.plan.proofs.framed.Statement.{statement}
 use Rattle.plan.proofs.framed.Tie as tie
 
 -- the bytes, at the places that the answers go back to
-abbrev bytes : tie.Else1 → List ℕ
+abbrev bytes : tie.Else-plan-lt11 → List ℕ
 bytes c = c.before.before.args.plan.now
 
-abbrev long_enough : tie.Else2 → tie.Else1
+abbrev long_enough : tie.Else-counts_outside → tie.Else-plan-lt11
 long_enough c = c.before.before.before
 
 -- the bytes passed refusal 1
-long : (c : tie.Else1) → too_short (bytes c) ≡ false
-long c = le-ltb _ _ c.if1.false
+long : (c : tie.Else-plan-lt11) → too_short (bytes c) ≡ false
+long c = le-ltb _ _ c.if-plan-lt11.false
 
 -- refusal 2 goes by its test
-outside : (c : tie.After-counts-outside) → c.counts-outside.result ≡ counts_wrong (bytes c.before.before)
-outside c = c.counts-outside.ensures ∙ ap counts_outside c.before.read_head.ensures
+outside : (c : tie.After-counts_outside) → c.counts_outside.result ≡ counts_wrong (bytes c.before.before)
+outside c = c.counts_outside.ensures ∙ ap counts_outside c.before.read_head-h.ensures
 
-inside : (c : tie.Else2) → counts_wrong (bytes (long_enough c)) ≡ false
-inside c = told (outside c.before) c.if2.false
+inside : (c : tie.Else-counts_outside) → counts_wrong (bytes (long_enough c)) ≡ false
+inside c = told (outside c.before) c.if-counts_outside.false
 
-counted : (c : tie.Else2) → Ranged c.before.before.read_head.result
-counted c = ranged _ (told c.before.counts-outside.ensures c.if2.false)
+counted : (c : tie.Else-counts_outside) → Ranged c.before.before.read_head-h.result
+counted c = ranged _ (told c.before.counts_outside.ensures c.if-counts_outside.false)
 
 -- where the sections end
-ended : (c : tie.After-end-of) → c.end_of_lem.result ≡ end_at (head_of (bytes (long_enough c.before)))
-ended c = c.end_of_lem.ensures ∙ ap end_at c.before.before.before.read_head.ensures
+ended : (c : tie.After-end_of-end) → c.end_of_lem.result ≡ end_at (head_of (bytes (long_enough c.before)))
+ended c = c.end_of_lem.ensures ∙ ap end_at c.before.before.before.read_head-h.ensures
 
 -- refusals 3 and 4, from there
 abbrev short_of : List ℕ → ℕ → Bool
@@ -50,75 +50,63 @@ short_of b end = ltb (length b) ((end + 7) / 8)
 abbrev filled_from : List ℕ → ℕ → Bool
 filled_from b end = not (eqb (field_at b end (8 * ((end + 7) / 8) - end)) 0)
 
-whole : (c : tie.Else3) → cut_short (bytes (long_enough c.before.before)) ≡ false
-whole c = ap (short_of (bytes (long_enough c.before.before))) (sym (ended c.before)) ∙ le-ltb _ _ c.if3.false
+whole : (c : tie.Else-plan-bytes) → cut_short (bytes (long_enough c.before.before)) ≡ false
+whole c = ap (short_of (bytes (long_enough c.before.before))) (sym (ended c.before)) ∙ le-ltb _ _ c.if-plan-bytes.false
 
 filling : (c : tie.After-field) → filled (bytes (long_enough c.before.before.before)) ≡ not (eqb c.field.result 0)
 filling c =
     ap (filled_from (bytes (long_enough c.before.before.before))) (sym (ended c.before.before)) ∙ ap (λ (n : ℕ). not (eqb n 0)) (sym c.field.ensures)
 
-returns : tie.Need-returns
-returns c = sym (ap outcome_of (framing_1 c.before.before.args.plan.now (lt-ltb _ _ c.if1.true)))
+returns-then-plan-lt11 : tie.Need-returns-then-plan-lt11
+returns-then-plan-lt11 c = sym (ap outcome_of (framing_1 c.before.before.args.plan.now (lt-ltb _ _ c.if-plan-lt11.true)))
 
-read-head-requires : tie.Need-read-head-requires
-read-head-requires c κs = search rules
+read_head-h-requires : tie.Need-read_head-h-requires
+read_head-h-requires c κs = search rules
 
-counts-outside-requires : tie.Need-counts-outside-requires
-counts-outside-requires c κs = search rules
+counts_outside-requires : tie.Need-counts_outside-requires
+counts_outside-requires c κs = search rules
 
-returns-2 : tie.Need-returns-2
-returns-2 c =
+returns-then-counts_outside : tie.Need-returns-then-counts_outside
+returns-then-counts_outside c =
     let one = c.before.before.before in
-    sym (ap outcome_of (framing_2 (bytes one) (long one) (told (outside c.before) c.if2.true)))
+    sym (ap outcome_of (framing_2 (bytes one) (long one) (told (outside c.before) c.if-counts_outside.true)))
 
-end-of-requires : tie.Need-end-of-requires
-end-of-requires c κs = let r = counted c in (r.jobs, r.steps, r.channels, r.calls, r.accepts)
+end_of-end-requires : tie.Need-end_of-end-requires
+end_of-end-requires c κs = let r = counted c in (r.jobs, r.steps, r.channels, r.calls, r.accepts)
 
-add-bytes : tie.Need-overflow-add-bytes
-add-bytes c = omega (arith, counted c.before, c.end_of_lem.ensures)
+overflow_add-bytes : tie.Need-overflow_add-bytes
+overflow_add-bytes c = omega (arith, counted c.before, c.end_of_lem.ensures)
 
-returns-3 : tie.Need-returns-3
-returns-3 c =
+returns-then-plan-bytes : tie.Need-returns-then-plan-bytes
+returns-then-plan-bytes c =
     let two = c.before.before in
     let b = bytes (long_enough two) in
-    sym (ap outcome_of (framing_3 b (long (long_enough two)) (inside two) (ap (short_of b) (sym (ended c.before)) ∙ lt-ltb _ _ c.if3.true)))
+    sym (ap outcome_of (framing_3 b (long (long_enough two)) (inside two) (ap (short_of b) (sym (ended c.before)) ∙ lt-ltb _ _ c.if-plan-bytes.true)))
 
-mul-field : tie.Need-overflow-mul-field
-mul-field c = omega (arith, counted c.before.before, c.before.end_of_lem.ensures)
+overflow_mul-bytes : tie.Need-overflow_mul-bytes
+overflow_mul-bytes c = omega (arith, counted c.before.before, c.before.end_of_lem.ensures)
 
-sub-field : tie.Need-overflow-sub-field
-sub-field c = search rules
+overflow_sub-bytes : tie.Need-overflow_sub-bytes
+overflow_sub-bytes c = search rules
 
 field-requires : tie.Need-field-requires
-field-requires c κs = omega (arith, counted c.before.before, c.before.end_of_lem.ensures, c.if3.false)
+field-requires c κs = omega (arith, counted c.before.before, c.before.end_of_lem.ensures, c.if-plan-bytes.false)
 
-returns-4 : tie.Need-returns-4
-returns-4 c =
+returns-then-field-ne0 : tie.Need-returns-then-field-ne0
+returns-then-field-ne0 c =
     let three = c.before.before in
     let two = three.before.before in
     let one = long_enough two in
-    sym (ap outcome_of (framing_4 (bytes one) (long one) (inside two) (whole three) (filling c.before ∙ ap not (ne_eqb _ 0 c.if4.true))))
+    sym (ap outcome_of (framing_4 (bytes one) (long one) (inside two) (whole three) (filling c.before ∙ ap not (ne_eqb _ 0 c.if-field-ne0.true))))
 
-returns-5 : tie.Need-returns-5
-returns-5 c =
+returns : tie.Need-returns
+returns c =
     let three = c.before.before in
     let two = three.before.before in
     let one = long_enough two in
-    sym (ap outcome_of (framing_none (bytes one) (long one) (inside two) (whole three) (filling c.before ∙ ap not (eq-eqb _ 0 c.if4.false))))
+    sym (ap outcome_of (framing_none (bytes one) (long one) (inside two) (whole three) (filling c.before ∙ ap not (eq-eqb _ 0 c.if-field-ne0.false))))
 
-pub framed-spec : {M : Type 1} → statement M
-framed-spec =
+pub framed_spec : {M : Type 1} → statement M
+framed_spec =
     tie.close
-    (tie.spec
-    returns
-    read-head-requires
-    counts-outside-requires
-    returns-2
-    end-of-requires
-    add-bytes
-    returns-3
-    mul-field
-    sub-field
-    field-requires
-    returns-4
-    returns-5)
+    (tie.spec returns-then-plan-lt11 read_head-h-requires counts_outside-requires returns-then-counts_outside end_of-end-requires overflow_add-bytes returns-then-plan-bytes overflow_mul-bytes overflow_sub-bytes field-requires returns-then-field-ne0 returns)

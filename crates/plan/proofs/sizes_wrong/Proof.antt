@@ -18,38 +18,38 @@ use Rattle.plan.proofs.sizes_wrong.Tie as tie
 abbrev zero_size : ℕ → Job → Bool
 zero_size k b = eqb b.size 0
 
-abbrev invariant-loop : tie.invariant-loop
-invariant-loop nodes jobs count empty₀ sum₀ i₀ empty sum i = (i ≤ count) × (empty ≡ any (λ (b : Job). eqb b.size 0) (row i (job_in jobs))) × (sum ≡ total (sizes (row i (job_in jobs)))) × (sum ≤ 65535 * i)
+abbrev invariant-loop-i : tie.invariant-loop-i
+invariant-loop-i nodes jobs count empty₀ sum₀ i₀ empty sum i = (i ≤ count) × (empty ≡ any (λ (b : Job). eqb b.size 0) (row i (job_in jobs))) × (sum ≡ total (sizes (row i (job_in jobs)))) × (sum ≤ 65535 * i)
 
-abbrev decreases-loop : tie.decreases-loop
-decreases-loop nodes jobs count empty₀ sum₀ i₀ empty sum i = count - i
+abbrev decreases-loop-i : tie.decreases-loop-i
+decreases-loop-i nodes jobs count empty₀ sum₀ i₀ empty sum i = count - i
 
-loop-holds : tie.Need-loop-init invariant-loop decreases-loop
-loop-holds c = (omega arith, sym (any_row_none zero_size (job_in c.args.t2)), sym (total_none (job_in c.args.t2)), omega arith)
+loop-i-init : tie.Need-loop-i-init invariant-loop-i decreases-loop-i
+loop-i-init c = (omega arith, sym (any_row_none zero_size (job_in c.args.t2)), sym (total_none (job_in c.args.t2)), omega arith)
 
-mul_wide : tie.Need-overflow-mul-wide invariant-loop decreases-loop
-mul_wide c = omega arith
+offset_bounds-jobs-i : tie.Need-offset_bounds-jobs-i invariant-loop-i decreases-loop-i
+offset_bounds-jobs-i c = omega arith
 
-element-copy-out-wide : tie.Need-element-copy-out-wide invariant-loop decreases-loop
-element-copy-out-wide c = omega arith
+bounds-jobs-i : tie.Need-bounds-jobs-i invariant-loop-i decreases-loop-i
+bounds-jobs-i c = omega arith
 
-wide-requires : tie.Need-wide-requires invariant-loop decreases-loop
-wide-requires c κs = tt
+wide-size-requires : tie.Need-wide-size-requires invariant-loop-i decreases-loop-i
+wide-size-requires c κs = tt
 
-add-sum : tie.Need-overflow-add-sum invariant-loop decreases-loop
-add-sum c = omega (arith, c.wide.ensures)
+overflow_add-sum : tie.Need-overflow_add-sum invariant-loop-i decreases-loop-i
+overflow_add-sum c = omega (arith, c.wide-size.ensures)
 
-add-i : tie.Need-overflow-add-i invariant-loop decreases-loop
-add-i c = omega arith
+overflow_add-i : tie.Need-overflow_add-i invariant-loop-i decreases-loop-i
+overflow_add-i c = omega arith
 
-loop-less : tie.Need-loop-smaller invariant-loop decreases-loop
-loop-less c = omega arith
+loop-i-smaller : tie.Need-loop-i-smaller invariant-loop-i decreases-loop-i
+loop-i-smaller c = omega arith
 
-loop-again : tie.Need-loop-preserved invariant-loop decreases-loop
-loop-again c =
+loop-i-preserved : tie.Need-loop-i-preserved invariant-loop-i decreases-loop-i
+loop-i-preserved c =
     let jobs = c.before.before.before.before.args.t2 in
-    let loop = c.before.before.before.loop in
-    let w = c.wide.ensures in
+    let loop = c.before.before.before.loop-i in
+    let w = c.wide-size.ensures in
     let more = total_more (job_in jobs) loop.i in (
       omega arith,
       any_turn zero_size (job_in jobs) loop.i loop.empty _ loop.invariant.1 (ap (λ (n : ℕ). eqb n 0) w.0),
@@ -57,27 +57,16 @@ loop-again c =
       omega (arith, loop.invariant.3, w.1),
     )
 
-returns : tie.Need-returns invariant-loop decreases-loop
+returns : tie.Need-returns invariant-loop-i decreases-loop-i
 returns c =
     let args = c.before.before.args in
-    let inv = c.before.loop.invariant in
-    let e : c.before.loop.i ≡ c.before.before.args.t2.count = omega arith in
-    let found : (c.before.loop.empty || not (eqb c.before.loop.sum args.nodes)) ≡ sizes_wrong args.nodes (row c.before.loop.i (job_in args.t2)) =
+    let inv = c.before.loop-i.invariant in
+    let e : c.before.loop-i.i ≡ c.before.before.args.t2.count = omega arith in
+    let found : (c.before.loop-i.empty || not (eqb c.before.loop-i.sum args.nodes)) ≡ sizes_wrong args.nodes (row c.before.loop-i.i (job_in args.t2)) =
     λ k. inv.1 k || not (eqb (inv.2 k) args.nodes) in
     found ∙ ap (λ (n : ℕ). sizes_wrong args.nodes (row n (job_in args.t2))) e
 
-pub sizes-wrong-spec : {M : Type 1} → statement M
-sizes-wrong-spec =
+pub sizes_wrong_spec : {M : Type 1} → statement M
+sizes_wrong_spec =
     tie.close
-    (tie.spec
-    invariant-loop
-    decreases-loop
-    loop-holds
-    mul_wide
-    element-copy-out-wide
-    wide-requires
-    add-sum
-    add-i
-    loop-less
-    loop-again
-    returns)
+    (tie.spec invariant-loop-i decreases-loop-i loop-i-init offset_bounds-jobs-i bounds-jobs-i wide-size-requires overflow_add-sum overflow_add-i loop-i-smaller loop-i-preserved returns)

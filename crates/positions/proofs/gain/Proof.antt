@@ -9,81 +9,67 @@ use Rattle.positions.proofs.Gains.{Gaining, gaining_none, gaining_more, gaining_
 use Rattle.positions.proofs.gain.Statement.{statement}
 use Rattle.positions.proofs.gain.Tie as tie
 
-abbrev invariant-loop : tie.invariant-loop
-invariant-loop sets₀ m x left₀ sets left = Gaining sets₀ m x left sets
+abbrev invariant-loop-left : tie.invariant-loop-left
+invariant-loop-left sets₀ m x left₀ sets left = Gaining sets₀ m x left sets
 
-abbrev decreases-loop : tie.decreases-loop
-decreases-loop sets₀ m x left₀ sets left = ones left
+abbrev decreases-loop-left : tie.decreases-loop-left
+decreases-loop-left sets₀ m x left₀ sets left = ones left
 
 -- the lowest member that is left
-abbrev member : tie.In-loop invariant-loop decreases-loop → ℕ
-member c = count_trailing_zeros 64 c.before.loop.left
+abbrev member : tie.In-loop-left invariant-loop-left decreases-loop-left → ℕ
+member c = count_trailing_zeros 64 c.before.loop-left.left
 
-lowest : (c : tie.In-loop invariant-loop decreases-loop) → In (member c) c.before.loop.left × (member c < 33)
+lowest : (c : tie.In-loop-left invariant-loop-left decreases-loop-left) → In (member c) c.before.loop-left.left × (member c < 33)
 lowest c =
-    let left = c.before.loop.left in
+    let left = c.before.loop-left.left in
     let low = lowest_in 64 left (omega arith) (omega arith) in
-    (low.0, in_below 33 left (member c) c.before.loop.invariant.few low.0)
+    (low.0, in_below 33 left (member c) c.before.loop-left.invariant.few low.0)
 
-loop-holds : tie.Need-loop-init invariant-loop decreases-loop
-loop-holds c = gaining_none c.args.sets.now c.args.m c.args.x c.requires
+loop-left-init : tie.Need-loop-left-init invariant-loop-left decreases-loop-left
+loop-left-init c = gaining_none c.args.sets.now c.args.m c.args.x c.requires
 
-cast-sets : tie.Need-overflow-cast-sets invariant-loop decreases-loop
-cast-sets c = omega (arith, (lowest c).1)
+overflow_cast-sets : tie.Need-overflow_cast-sets invariant-loop-left decreases-loop-left
+overflow_cast-sets c = omega (arith, (lowest c).1)
 
-mul-sets : tie.Need-overflow-mul-sets invariant-loop decreases-loop
-mul-sets c = omega (arith, (lowest c).1)
+offset_bounds-sets-p : tie.Need-offset_bounds-sets-p invariant-loop-left decreases-loop-left
+offset_bounds-sets-p c = omega (arith, (lowest c).1)
 
-element-copy-out-sets : tie.Need-element-copy-out-sets invariant-loop decreases-loop
-element-copy-out-sets c = (lowest c).1
+bounds-sets-p : tie.Need-bounds-sets-p invariant-loop-left decreases-loop-left
+bounds-sets-p c = (lowest c).1
 
-cast-sets-2 : tie.Need-overflow-cast-sets-2 invariant-loop decreases-loop
-cast-sets-2 c = omega (arith, (lowest c.before).1)
+overflow_cast-sets-in-loop-left : tie.Need-overflow_cast-sets-in-loop-left invariant-loop-left decreases-loop-left
+overflow_cast-sets-in-loop-left c = omega (arith, (lowest c.before).1)
 
-mul-sets-2 : tie.Need-overflow-mul-sets-2 invariant-loop decreases-loop
-mul-sets-2 c = omega (arith, (lowest c.before).1)
+offset_bounds-sets-p-in-loop-left : tie.Need-offset_bounds-sets-p-in-loop-left invariant-loop-left decreases-loop-left
+offset_bounds-sets-p-in-loop-left c = omega (arith, (lowest c.before).1)
 
-element-write-sets : tie.Need-element-write-sets invariant-loop decreases-loop
-element-write-sets c = (lowest c.before).1
+bounds-sets-p-in-loop-left : tie.Need-bounds-sets-p-in-loop-left invariant-loop-left decreases-loop-left
+bounds-sets-p-in-loop-left c = (lowest c.before).1
 
-cast-left : tie.Need-overflow-cast-left invariant-loop decreases-loop
-cast-left c = omega (arith, (lowest c.before).1)
+overflow_cast-left : tie.Need-overflow_cast-left invariant-loop-left decreases-loop-left
+overflow_cast-left c = omega (arith, (lowest c.before).1)
 
-shl-left : tie.Need-overflow-shl-left invariant-loop decreases-loop
-shl-left c = omega (arith, (lowest c.before).1)
+overflow_shl-left : tie.Need-overflow_shl-left invariant-loop-left decreases-loop-left
+overflow_shl-left c = omega (arith, (lowest c.before).1)
 
-loop-less : tie.Need-loop-smaller invariant-loop decreases-loop
-loop-less c =
+loop-left-smaller : tie.Need-loop-left-smaller invariant-loop-left decreases-loop-left
+loop-left-smaller c =
     let low = lowest c.before in
-    rw (single_code 64 (member c.before) (omega (arith, low.1))) (ones_without c.before.before.loop.left (member c.before) low.0)
+    rw (single_code 64 (member c.before) (omega (arith, low.1))) (ones_without c.before.before.loop-left.left (member c.before) low.0)
 
-loop-again : tie.Need-loop-preserved invariant-loop decreases-loop
-loop-again c =
+loop-left-preserved : tie.Need-loop-left-preserved invariant-loop-left decreases-loop-left
+loop-left-preserved c =
     let args = c.before.before.before.args in
-    let loop = c.before.before.loop in
+    let loop = c.before.before.loop-left in
     let p = member c.before in
     let low = lowest c.before in
     rw (single_code 64 p (omega (arith, low.1)))
     (gaining_more args.sets.now args.m args.x loop.left p loop.sets loop.invariant low.0 low.1)
 
-returns : tie.Need-returns invariant-loop decreases-loop
-returns c = gaining_all _ _ _ _ (rw c.loop-test.false at c.before.loop.invariant)
+returns : tie.Need-returns invariant-loop-left decreases-loop-left
+returns c = gaining_all _ _ _ _ (rw c.loop-left-test.false at c.before.loop-left.invariant)
 
-pub gain-spec : {M : Type 1} → statement M
-gain-spec =
+pub gain_spec : {M : Type 1} → statement M
+gain_spec =
     tie.close
-    (tie.spec
-    invariant-loop
-    decreases-loop
-    loop-holds
-    cast-sets
-    mul-sets
-    element-copy-out-sets
-    cast-sets-2
-    mul-sets-2
-    element-write-sets
-    cast-left
-    shl-left
-    loop-less
-    loop-again
-    returns)
+    (tie.spec invariant-loop-left decreases-loop-left loop-left-init overflow_cast-sets offset_bounds-sets-p bounds-sets-p overflow_cast-sets-in-loop-left offset_bounds-sets-p-in-loop-left bounds-sets-p-in-loop-left overflow_cast-left overflow_shl-left loop-left-smaller loop-left-preserved returns)

@@ -6,5 +6,5 @@ use Rattle.positions.proofs.take_choice.Tie as tie
 returns : tie.Need-returns
 returns c = refl
 
-pub take-choice-spec : {M : Type 1} → statement M
-take-choice-spec = tie.close (tie.spec returns)
+pub take_choice_spec : {M : Type 1} → statement M
+take_choice_spec = tie.close (tie.spec returns)

@@ -6,5 +6,5 @@ use Rattle.positions.proofs.take_empty.Tie as tie
 returns : tie.Need-returns
 returns c = refl
 
-pub take-empty-spec : {M : Type 1} → statement M
-take-empty-spec = tie.close (tie.spec returns)
+pub take_empty_spec : {M : Type 1} → statement M
+take_empty_spec = tie.close (tie.spec returns)

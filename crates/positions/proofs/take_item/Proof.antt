@@ -4,50 +4,40 @@ use Rattle.positions.proofs.Items.{item_repeat}
 use Rattle.positions.proofs.take_item.Statement.{statement}
 use Rattle.positions.proofs.take_item.Tie as tie
 
-take-empty-requires : tie.Need-take-empty-requires
-take-empty-requires c κs = search rules
+take_empty-requires : tie.Need-take_empty-requires
+take_empty-requires c κs = search rules
 
-take-events-requires : tie.Need-take-events-requires
-take-events-requires c κs = search rules
+take_events-requires : tie.Need-take_events-requires
+take_events-requires c κs = search rules
 
-take-sequence-requires : tie.Need-take-sequence-requires
-take-sequence-requires c κs = search rules
+take_sequence-requires : tie.Need-take_sequence-requires
+take_sequence-requires c κs = search rules
 
-take-choice-requires : tie.Need-take-choice-requires
-take-choice-requires c κs = search rules
+take_choice-requires : tie.Need-take_choice-requires
+take_choice-requires c κs = search rules
 
-take-repeat-requires : tie.Need-take-repeat-requires
-take-repeat-requires c κs = search rules
+take_repeat-requires : tie.Need-take_repeat-requires
+take_repeat-requires c κs = search rules
 
-returns : tie.Need-returns
-returns c = rw c.before.match.keys1 c.take-empty.ensures
+returns-in-0 : tie.Need-returns-in-0
+returns-in-0 c = rw c.before.in_default.keys1 c.take_empty.ensures
 
-returns-2 : tie.Need-returns-2
-returns-2 c = rw c.before.match.keys2 c.take-events.ensures
+returns-in-1 : tie.Need-returns-in-1
+returns-in-1 c = rw c.before.in_default.keys2 c.take_events.ensures
 
-returns-3 : tie.Need-returns-3
-returns-3 c = rw c.before.match.keys3 c.take-sequence.ensures
+returns-in-2 : tie.Need-returns-in-2
+returns-in-2 c = rw c.before.in_default.keys3 c.take_sequence.ensures
 
-returns-4 : tie.Need-returns-4
-returns-4 c = rw c.before.match.keys4 c.take-choice.ensures
+returns-in-3 : tie.Need-returns-in-3
+returns-in-3 c = rw c.before.in_default.keys4 c.take_choice.ensures
 
-returns-5 : tie.Need-returns-5
-returns-5 c =
+returns-in_default : tie.Need-returns-in_default
+returns-in_default c =
     let args = c.before.before.args in
-    let rest = c.before.match.rest in
-    rw (item_repeat args.kind args.set rest.0.0.0.1 rest.0.0.1 rest.0.1 rest.1) c.take-repeat.ensures
+    let rest = c.before.in_default.rest in
+    rw (item_repeat args.kind args.set rest.0.0.0.1 rest.0.0.1 rest.0.1 rest.1) c.take_repeat.ensures
 
-pub take-item-spec : {M : Type 1} → statement M
-take-item-spec =
+pub take_item_spec : {M : Type 1} → statement M
+take_item_spec =
     tie.close
-    (tie.spec
-    take-empty-requires
-    take-events-requires
-    take-sequence-requires
-    take-choice-requires
-    take-repeat-requires
-    returns
-    returns-2
-    returns-3
-    returns-4
-    returns-5)
+    (tie.spec take_empty-requires take_events-requires take_sequence-requires take_choice-requires take_repeat-requires returns-in-0 returns-in-1 returns-in-2 returns-in-3 returns-in_default)

@@ -6,5 +6,5 @@ use Rattle.positions.proofs.take_repeat.Tie as tie
 returns : tie.Need-returns
 returns c = refl
 
-pub take-repeat-spec : {M : Type 1} → statement M
-take-repeat-spec = tie.close (tie.spec returns)
+pub take_repeat_spec : {M : Type 1} → statement M
+take_repeat_spec = tie.close (tie.spec returns)

@@ -22,7 +22,7 @@ returns c =
     making
     (record { null = args.older.null && args.newer.null; first = bit_or args.older.first begins; last = bit_or ends args.newer.last })
     args.older.last args.newer.first 0 0)
-    c.before.before.before.only.ensures c.before.only2.ensures
+    c.before.before.before.only.ensures c.before.only-2.ensures
 
-pub take-sequence-spec : {M : Type 1} → statement M
-take-sequence-spec = tie.close (tie.spec only-requires only-requires-2 returns)
+pub take_sequence_spec : {M : Type 1} → statement M
+take_sequence_spec = tie.close (tie.spec only-requires only-requires-2 returns)

@@ -6,16 +6,16 @@ use borrow.Author.Rules.{rules}
 use Rattle.readback.proofs.counts_of.Statement.{statement}
 use Rattle.readback.proofs.counts_of.Tie as tie
 
-kind-number-requires : tie.Need-kind-number-requires
-kind-number-requires c κs = search rules
+kind_number-requires : tie.Need-kind_number-requires
+kind_number-requires c κs = search rules
 
-cast-t4 : tie.Need-overflow-cast-t4
-cast-t4 c = search rules
+overflow_cast-result : tie.Need-overflow_cast-result
+overflow_cast-result c = search rules
 
 returns : tie.Need-returns
 returns c =
     let d = c.before.before.args.d in
-    ap (λ (k : ℕ). d.jobs.count ∷ d.nodes ∷ d.steps ∷ d.calls ∷ d.accepts ∷ d.channels.count ∷ k ∷ d.items ∷ d.alphabet ∷ []) c.before.kind-number.ensures
+    ap (λ (k : ℕ). d.jobs.count ∷ d.nodes ∷ d.steps ∷ d.calls ∷ d.accepts ∷ d.channels.count ∷ k ∷ d.items ∷ d.alphabet ∷ []) c.before.kind_number.ensures
 
-pub counts-of-spec : {M : Type 1} → statement M
-counts-of-spec = tie.close (tie.spec kind-number-requires cast-t4 returns)
+pub counts_of_spec : {M : Type 1} → statement M
+counts_of_spec = tie.close (tie.spec kind_number-requires overflow_cast-result returns)

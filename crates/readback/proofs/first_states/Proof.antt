@@ -10,58 +10,47 @@ use Rattle.rows.proofs.Rows.{padded_row_more, padded_full}
 use Rattle.readback.proofs.first_states.Statement.{statement}
 use Rattle.readback.proofs.first_states.Tie as tie
 
-abbrev invariant-loop : tie.invariant-loop
-invariant-loop sets states₀ k₀ states k = (k ≤ 64) × (states ≡ padded 64 (row k (place sets)))
+abbrev invariant-loop-k : tie.invariant-loop-k
+invariant-loop-k sets states₀ k₀ states k = (k ≤ 64) × (states ≡ padded 64 (row k (place sets)))
 
-abbrev decreases-loop : tie.decreases-loop
-decreases-loop sets states₀ k₀ states k = 64 - k
+abbrev decreases-loop-k : tie.decreases-loop-k
+decreases-loop-k sets states₀ k₀ states k = 64 - k
 
-loop-holds : tie.Need-loop-init invariant-loop decreases-loop
+loop-k-init : tie.Need-loop-k-init invariant-loop-k decreases-loop-k
 unfolding padded row
-loop-holds c = (omega arith, refl)
+loop-k-init c = (omega arith, refl)
 
-mul-states : tie.Need-overflow-mul-states invariant-loop decreases-loop
-mul-states c = omega arith
+offset_bounds-sets-k : tie.Need-offset_bounds-sets-k invariant-loop-k decreases-loop-k
+offset_bounds-sets-k c = omega arith
 
-element-copy-out-states : tie.Need-element-copy-out-states invariant-loop decreases-loop
-element-copy-out-states c = search rules
+bounds-sets-k : tie.Need-bounds-sets-k invariant-loop-k decreases-loop-k
+bounds-sets-k c = search rules
 
-mul-states-2 : tie.Need-overflow-mul-states-2 invariant-loop decreases-loop
-mul-states-2 c = omega arith
+offset_bounds-states-k : tie.Need-offset_bounds-states-k invariant-loop-k decreases-loop-k
+offset_bounds-states-k c = omega arith
 
-array-write-states : tie.Need-array-write-states invariant-loop decreases-loop
-array-write-states c = omega arith
+bounds-states-k : tie.Need-bounds-states-k invariant-loop-k decreases-loop-k
+bounds-states-k c = omega arith
 
-add-k : tie.Need-overflow-add-k invariant-loop decreases-loop
-add-k c = omega arith
+overflow_add-k : tie.Need-overflow_add-k invariant-loop-k decreases-loop-k
+overflow_add-k c = omega arith
 
-loop-less : tie.Need-loop-smaller invariant-loop decreases-loop
-loop-less c = omega arith
+loop-k-smaller : tie.Need-loop-k-smaller invariant-loop-k decreases-loop-k
+loop-k-smaller c = omega arith
 
-loop-again : tie.Need-loop-preserved invariant-loop decreases-loop
-loop-again c =
+loop-k-preserved : tie.Need-loop-k-preserved invariant-loop-k decreases-loop-k
+loop-k-preserved c =
     let sets = c.before.before.before.args.sets.now in
-    let loop = c.before.before.loop in
+    let loop = c.before.before.loop-k in
     (omega arith, rw loop.invariant.1 (padded_row_more 64 (place sets) loop.k (place sets loop.k) (omega arith) refl))
 
-returns : tie.Need-returns invariant-loop decreases-loop
+returns : tie.Need-returns invariant-loop-k decreases-loop-k
 returns c =
     let sets = c.before.before.args.sets.now in
-    let all : c.before.loop.k ≡ 64 = omega arith in
-    c.before.loop.invariant.1 ∙ ap (λ (n : ℕ). padded 64 (row n (place sets))) all ∙ padded_full 64 (place sets)
+    let all : c.before.loop-k.k ≡ 64 = omega arith in
+    c.before.loop-k.invariant.1 ∙ ap (λ (n : ℕ). padded 64 (row n (place sets))) all ∙ padded_full 64 (place sets)
 
-pub first-states-spec : {M : Type 1} → statement M
-first-states-spec =
+pub first_states_spec : {M : Type 1} → statement M
+first_states_spec =
     tie.close
-    (tie.spec
-    invariant-loop
-    decreases-loop
-    loop-holds
-    mul-states
-    element-copy-out-states
-    mul-states-2
-    array-write-states
-    add-k
-    loop-less
-    loop-again
-    returns)
+    (tie.spec invariant-loop-k decreases-loop-k loop-k-init offset_bounds-sets-k bounds-sets-k offset_bounds-states-k bounds-states-k overflow_add-k loop-k-smaller loop-k-preserved returns)

@@ -22,60 +22,54 @@ use Rattle.readback.proofs.property_of.Statement.{statement}
 use Rattle.readback.proofs.property_of.Tie as tie
 
 -- the bytes, and what the reader said of them, where it has no refusal
-abbrev bytes : tie.After-enum-told → List ℕ
+abbrev bytes : tie.In-Accepted → List ℕ
 bytes c = c.before.before.before.before.before.before.args.plan.now
 
-passed : (c : tie.After-enum-told) → first readable (bytes c) ≡ none
-passed c = read_accepted (bytes c) (ap (λ (r : PatternRead). r.reading.outcome) (sym c.before.before.before.read-pattern.ensures.0) ∙ c.enum_told.given.1)
+passed : (c : tie.In-Accepted) → first readable (bytes c) ≡ none
+passed c = read_accepted (bytes c) (ap (λ (r : PatternRead). r.reading-1.outcome) (sym c.before.before.before.read_pattern-read.ensures.0) ∙ c.enum_told-1.given.1)
 
-read : (c : tie.After-enum-told) → c.before.before.before.read-pattern.result ≡ accepted (bytes c)
-read c = c.before.before.before.read-pattern.ensures.0 ∙ answer (bytes c) none (passed c)
+read : (c : tie.In-Accepted) → c.before.before.before.read_pattern-read.result ≡ accepted (bytes c)
+read c = c.before.before.before.read_pattern-read.ensures.0 ∙ answer (bytes c) none (passed c)
 
-read-pattern-requires : tie.Need-read-pattern-requires
-read-pattern-requires c κs = search rules
+read_pattern-read-requires : tie.Need-read_pattern-read-requires
+read_pattern-read-requires c κs = search rules
 
-enum-known-found : tie.Need-enum-known-found
-enum-known-found c = search rules
+enum_known-found : tie.Need-enum_known-found
+enum_known-found c = search rules
 
-enum_told : tie.Need-enum-told
-enum_told c = search rules
+enum_told-1 : tie.Need-enum_told-1
+enum_told-1 c = search rules
 
-property-under-requires : tie.Need-property-under-requires
-property-under-requires c κs =
+property_under-requires : tie.Need-property_under-requires
+property_under-requires c κs =
     let e = c.before.before.before.before.before in
-    subst (λ (r : PatternRead). Postfix r.items) (sym (read e)) (plan_postfix (bytes e) (passed e))
+    subst (λ (r : PatternRead). Postfix r.items-1) (sym (read e)) (plan_postfix (bytes e) (passed e))
 
-returns : tie.Need-returns
-returns c =
+returns-in-Refused : tie.Need-returns-in-Refused
+returns-in-Refused c =
     let b = c.before.before.before.before.before.before.before.args.plan.now in
-    let n = c.before.found.given.0.0 in
-    let e = read_refused b n (ap (λ (r : PatternRead). r.reading.outcome) (sym c.before.before.before.before.read-pattern.ensures.0) ∙ c.before.found.given.1) in
+    let n = c.before.found-1.given.0.0 in
+    let e = read_refused b n (ap (λ (r : PatternRead). r.reading-1.outcome) (sym c.before.before.before.before.read_pattern-read.ensures.0) ∙ c.before.found-1.given.1) in
     (sym (ap number_of (refused_early b n e)), sym (property_told b (some n) e _))
 
-returns-2 : tie.Need-returns-2
-returns-2 c =
+returns-in-Accepted : tie.Need-returns-in-Accepted
+returns-in-Accepted c =
     let e = c.before.before.before.before.before.before in
     let b = bytes e in
     let a = e.before.before.before.before.before.before.args in
     let before = property a.values.now a.states.now a.moves.now in
     let alphabet = (plan_of b).alphabet in (
-      c.property-under.ensures.0
-          ∙ ap (λ (r : PatternRead). limit (pattern_of (items_on r.items)) r.reading.plan.alphabet) (read e)
+      c.property_under.ensures.0
+          ∙ ap (λ (r : PatternRead). limit (pattern_of (items_on r.items-1)) r.reading-1.plan.alphabet) (read e)
           ∙ ap (λ (l : List Item). limit (pattern_of l) alphabet) (items_kept (items_of_plan b))
           ∙ by_limit b (passed e),
-      c.property-under.ensures.1
-          ∙ ap (λ (r : PatternRead). property_under (pattern_of (items_on r.items)) r.reading.plan.alphabet before) (read e)
+      c.property_under.ensures.1
+          ∙ ap (λ (r : PatternRead). property_under (pattern_of (items_on r.items-1)) r.reading-1.plan.alphabet before) (read e)
           ∙ ap (λ (l : List Item). property_under (pattern_of l) alphabet before) (items_kept (items_of_plan b))
           ∙ sym (property_told b none (passed e) before),
     )
 
-pub property-of-spec : {M : Type 1} → statement M
-property-of-spec =
+pub property_of_spec : {M : Type 1} → statement M
+property_of_spec =
     tie.close
-    (tie.spec
-    read-pattern-requires
-    enum-known-found
-    enum_told
-    property-under-requires
-    returns
-    returns-2)
+    (tie.spec read_pattern-read-requires enum_known-found enum_told-1 property_under-requires returns-in-Refused returns-in-Accepted)

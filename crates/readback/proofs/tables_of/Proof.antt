@@ -20,49 +20,43 @@ use borrow.Author.Rules.{rules}
 use Rattle.readback.proofs.tables_of.Statement.{statement}
 use Rattle.readback.proofs.tables_of.Tie as tie
 
-read-pattern-requires : tie.Need-read-pattern-requires
-read-pattern-requires c κs = search rules
+read_pattern-read-requires : tie.Need-read_pattern-read-requires
+read_pattern-read-requires c κs = search rules
 
-enum-known-found : tie.Need-enum-known-found
-enum-known-found c = search rules
+enum_known-found : tie.Need-enum_known-found
+enum_known-found c = search rules
 
-enum_told : tie.Need-enum-told
-enum_told c = search rules
+enum_told-1 : tie.Need-enum_told-1
+enum_told-1 c = search rules
 
-counts-of-requires : tie.Need-counts-of-requires
-counts-of-requires c κs = search rules
+counts_of-requires : tie.Need-counts_of-requires
+counts_of-requires c κs = search rules
 
-returns : tie.Need-returns
-returns c =
+returns-in-Refused : tie.Need-returns-in-Refused
+returns-in-Refused c =
     let b = c.before.before.before.before.before.before.before.args.plan.now in
-    let n = c.before.found.given.0.0 in
-    let e = read_refused b n (ap (λ (r : PatternRead). r.reading.outcome) (sym c.before.before.before.before.read-pattern.ensures.0) ∙ c.before.found.given.1) in
+    let n = c.before.found-1.given.0.0 in
+    let e = read_refused b n (ap (λ (r : PatternRead). r.reading-1.outcome) (sym c.before.before.before.before.read_pattern-read.ensures.0) ∙ c.before.found-1.given.1) in
     (sym (ap number_of e), sym (tables_told b (some n) e _))
 
-returns-2 : tie.Need-returns-2
-returns-2 c =
+returns-in-Accepted : tie.Need-returns-in-Accepted
+returns-in-Accepted c =
     let told = c.before.before.before.before.before.before.before.before.before in
-    let found = told.before.before.before.read-pattern in
+    let found = told.before.before.before.read_pattern-read in
     let b = told.before.before.before.before.before.before.args.plan.now in
-    let passed = read_accepted b (ap (λ (r : PatternRead). r.reading.outcome) (sym found.ensures.0) ∙ told.enum_told.given.1) in
+    let passed = read_accepted b (ap (λ (r : PatternRead). r.reading-1.outcome) (sym found.ensures.0) ∙ told.enum_told-1.given.1) in
     let read : found.result ≡ accepted b = found.ensures.0 ∙ answer b none passed in
     let arcs : found.new.1.0 ≡ row 512 (word_at (plan_of b)) =
     arcs_are (plan_of b) (legal b (before_items b passed)) found.new.1.0 (words_read b _ _ (before_items b passed) found.ensures.1) in
-    let counts = c.Counts-of.ensures ∙ ap (λ (r : PatternRead). counts_in r.reading.plan) read in (
+    let counts = c.Counts-of.ensures ∙ ap (λ (r : PatternRead). counts_in r.reading-1.plan) read in (
       sym (ap number_of passed),
       (λ i.
-          let d = (read i).reading.plan in
+          let d = (read i).reading-1.plan in
           tables (counts i) d.jobs.size d.jobs.entry d.jobs.exit d.jobs.standing d.channels.event (arcs i) (read i).items.kind (read i).items.set)
           ∙ sym (tables_told b none passed _),
     )
 
-pub tables-of-spec : {M : Type 1} → statement M
-tables-of-spec =
+pub tables_of_spec : {M : Type 1} → statement M
+tables_of_spec =
     tie.close
-    (tie.spec
-    read-pattern-requires
-    enum-known-found
-    enum_told
-    counts-of-requires
-    returns
-    returns-2)
+    (tie.spec read_pattern-read-requires enum_known-found enum_told-1 counts_of-requires returns-in-Refused returns-in-Accepted)

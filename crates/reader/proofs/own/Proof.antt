@@ -9,48 +9,39 @@ use Rattle.reader.proofs.Filling.{own_more}
 use Rattle.reader.proofs.own.Statement.{statement}
 use Rattle.reader.proofs.own.Tie as tie
 
-abbrev invariant-loop : tie.invariant-loop
-invariant-loop owner₀ at size job k₀ owner k = (k ≤ size) × (owner ≡ padded 256 (take at owner₀ ++ replicate k job))
+abbrev invariant-loop-k : tie.invariant-loop-k
+invariant-loop-k owner₀ at size job k₀ owner k = (k ≤ size) × (owner ≡ padded 256 (take at owner₀ ++ replicate k job))
 
-abbrev decreases-loop : tie.decreases-loop
-decreases-loop owner₀ at size job k₀ owner k = size - k
+abbrev decreases-loop-k : tie.decreases-loop-k
+decreases-loop-k owner₀ at size job k₀ owner k = size - k
 
-loop-holds : tie.Need-loop-init invariant-loop decreases-loop
-loop-holds c = (omega arith, c.requires.1 ∙ ap (padded 256) (sym (append-nil (take c.args.at c.args.owner.now))))
+loop-k-init : tie.Need-loop-k-init invariant-loop-k decreases-loop-k
+loop-k-init c = (omega arith, c.requires.1 ∙ ap (padded 256) (sym (append-nil (take c.args.at c.args.owner.now))))
 
-add-owner : tie.Need-overflow-add-owner invariant-loop decreases-loop
-add-owner c = omega arith
+overflow_add-owner : tie.Need-overflow_add-owner invariant-loop-k decreases-loop-k
+overflow_add-owner c = omega arith
 
-element-write-owner : tie.Need-element-write-owner invariant-loop decreases-loop
-element-write-owner c = omega arith
+bounds-owner-at : tie.Need-bounds-owner-at invariant-loop-k decreases-loop-k
+bounds-owner-at c = omega arith
 
-add-k : tie.Need-overflow-add-k invariant-loop decreases-loop
-add-k c = omega arith
+overflow_add-k : tie.Need-overflow_add-k invariant-loop-k decreases-loop-k
+overflow_add-k c = omega arith
 
-loop-less : tie.Need-loop-smaller invariant-loop decreases-loop
-loop-less c = omega arith
+loop-k-smaller : tie.Need-loop-k-smaller invariant-loop-k decreases-loop-k
+loop-k-smaller c = omega arith
 
-loop-again : tie.Need-loop-preserved invariant-loop decreases-loop
-loop-again c =
+loop-k-preserved : tie.Need-loop-k-preserved invariant-loop-k decreases-loop-k
+loop-k-preserved c =
     let args = c.before.before.args in
-    (omega arith, rw c.before.loop.invariant.1 (own_more (take args.at args.owner.now) args.at c.before.loop.k args.job c.before.before.requires.2 (omega arith)))
+    (omega arith, rw c.before.loop-k.invariant.1 (own_more (take args.at args.owner.now) args.at c.before.loop-k.k args.job c.before.before.requires.2 (omega arith)))
 
-returns : tie.Need-returns invariant-loop decreases-loop
+returns : tie.Need-returns invariant-loop-k decreases-loop-k
 returns c =
     let args = c.before.before.args in
-    let e : c.before.loop.k ≡ c.before.before.args.size = omega arith in
-    c.before.loop.invariant.1 ∙ ap (λ (k : ℕ). padded 256 (take args.at args.owner.now ++ replicate k args.job)) e
+    let e : c.before.loop-k.k ≡ c.before.before.args.size = omega arith in
+    c.before.loop-k.invariant.1 ∙ ap (λ (k : ℕ). padded 256 (take args.at args.owner.now ++ replicate k args.job)) e
 
-pub own-spec : {M : Type 1} → statement M
-own-spec =
+pub own_spec : {M : Type 1} → statement M
+own_spec =
     tie.close
-    (tie.spec
-    invariant-loop
-    decreases-loop
-    loop-holds
-    add-owner
-    element-write-owner
-    add-k
-    loop-less
-    loop-again
-    returns)
+    (tie.spec invariant-loop-k decreases-loop-k loop-k-init overflow_add-owner bounds-owner-at overflow_add-k loop-k-smaller loop-k-preserved returns)

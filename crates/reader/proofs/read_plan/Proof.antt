@@ -10,45 +10,38 @@ use Rattle.reader.proofs.read_plan.Statement.{statement}
 use Rattle.reader.proofs.read_plan.Tie as tie
 
 -- the bytes passed refusals 1 to 4
-passed : (c : tie.After-enum-told) → first framing c.before.before.before.before.args.plan.now ≡ none
-passed c = outcome_accepted (first framing c.before.before.before.before.args.plan.now) (sym c.before.before.framed.ensures ∙ c.enum_told.given.1)
+passed : (c : tie.In-Accepted) → first framing c.before.before.before.before.args.plan.now ≡ none
+passed c = outcome_accepted (first framing c.before.before.before.before.args.plan.now) (sym c.before.before.framed-found.ensures ∙ c.enum_told-1.given.1)
 
-framed-requires : tie.Need-framed-requires
-framed-requires c κs = search rules
+framed-found-requires : tie.Need-framed-found-requires
+framed-found-requires c κs = search rules
 
-enum-known-found : tie.Need-enum-known-found
-enum-known-found c = search rules
+enum_known-found : tie.Need-enum_known-found
+enum_known-found c = search rules
 
-turned-down-requires : tie.Need-turned-down-requires
-turned-down-requires c κs = search rules
+turned_down-requires : tie.Need-turned_down-requires
+turned_down-requires c κs = search rules
 
-enum_told : tie.Need-enum-told
-enum_told c = search rules
+enum_told-1 : tie.Need-enum_told-1
+enum_told-1 c = search rules
 
-read-sections-requires : tie.Need-read-sections-requires
-read-sections-requires c κs = (passed c.before, c.before.before.before.before.before.requires)
+read_sections-requires : tie.Need-read_sections-requires
+read_sections-requires c κs = (passed c.before, c.before.before.before.before.before.requires)
 
-returns : tie.Need-returns
-returns c =
+returns-in-Refused : tie.Need-returns-in-Refused
+returns-in-Refused c =
     let b = c.before.before.before.before.before.before.args.plan.now in
-    let found = c.before.before.found.given in
-    let refused = outcome_refused (first framing b) found.0.0 (sym c.before.before.before.before.framed.ensures ∙ found.1) in
+    let found = c.before.before.found-1.given in
+    let refused = outcome_refused (first framing b) found.0.0 (sym c.before.before.before.before.framed-found.ensures ∙ found.1) in
     (c.turned_down.ensures ∙ sym (reading_is b _ (order_refused b found.0.0 refused)), words_are b _ _ _ refused refl)
 
-returns-2 : tie.Need-returns-2
-returns-2 c =
+returns-in-Accepted : tie.Need-returns-in-Accepted
+returns-in-Accepted c =
     let told = c.before.before in
     let b = told.before.before.before.before.args.plan.now in
-    (c.read-sections.ensures.0 ∙ sym (reading_is b _ (order_past b (passed told))), words_are b _ _ _ (passed told) c.read-sections.ensures.1)
+    (c.read_sections.ensures.0 ∙ sym (reading_is b _ (order_past b (passed told))), words_are b _ _ _ (passed told) c.read_sections.ensures.1)
 
-pub read-plan-spec : {M : Type 1} → statement M
-read-plan-spec =
+pub read_plan_spec : {M : Type 1} → statement M
+read_plan_spec =
     tie.close
-    (tie.spec
-    framed-requires
-    enum-known-found
-    turned-down-requires
-    enum_told
-    read-sections-requires
-    returns
-    returns-2)
+    (tie.spec framed-found-requires enum_known-found turned_down-requires enum_told-1 read_sections-requires returns-in-Refused returns-in-Accepted)

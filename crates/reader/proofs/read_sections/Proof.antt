@@ -23,113 +23,99 @@ use Rattle.reader.proofs.read_sections.Statement.{statement}
 use Rattle.reader.proofs.read_sections.Tie as tie
 
 -- the bytes, and the places that the answers go back to
-abbrev begun : tie.After-decode → tie.Start
+abbrev begun : tie.After-decode-d → tie.Start
 begun r = r.before.before.before.before
 
-abbrev bytes : tie.After-decode → List ℕ
+abbrev bytes : tie.After-decode-d → List ℕ
 bytes r = (begun r).args.plan.now
 
-abbrev owned : tie.After-bounded → tie.After-owners-of
+abbrev owned : tie.After-bounded-found → tie.After-owners_of-owner
 owned f = f.before.before.before
 
-abbrev sized : tie.After-bounded → tie.After-sizes-wrong
+abbrev sized : tie.After-bounded-found → tie.After-sizes_wrong
 sized f = (owned f).before.before
 
-abbrev decoded : tie.After-bounded → tie.After-decode
+abbrev decoded : tie.After-bounded-found → tie.After-decode-d
 decoded f = (sized f).before
 
-read : (r : tie.After-decode) → Read (bytes r) r.before.before.read_head.result r.decode.result (begun r).args.words.now r.decode.new.1.1.0
-read r = record { passed = (begun r).requires.0; head = r.before.before.read_head.ensures; tables = r.decode.ensures.0; arcs = r.decode.ensures.1 }
+read : (r : tie.After-decode-d) → Read (bytes r) r.before.before.read_head-h.result r.decode-d.result (begun r).args.words.now r.decode-d.new.1.1.0
+read r = record { passed = (begun r).requires.0; head = r.before.before.read_head-h.ensures; tables = r.decode-d.ensures.0; arcs = r.decode-d.ensures.1 }
 
 -- refusals 6, 21, and 7 to 9 go by their tests
-bound : (f : tie.After-bounded) → outcome_of (first shape (plan_of (bytes (decoded f)))) ≡ f.bounded.result
+bound : (f : tie.After-bounded-found) → outcome_of (first shape (plan_of (bytes (decoded f)))) ≡ f.bounded-found.result
 bound f =
     let r = read (decoded f) in
-    ends_next r (sized f).sizes-wrong.ensures (owned f).before.if1.false _ (f.bounded.ensures (plan_of (bytes (decoded f))) (lent_of r (owned f).owners_of.ensures))
+    ends_next r (sized f).sizes_wrong.ensures (owned f).before.if-sizes_wrong.false _ (f.bounded-found.ensures (plan_of (bytes (decoded f))) (lent_of r (owned f).owners_of-owner.ensures))
 
 whole : (b : List ℕ) (plan : Decoded) (owner : List ℕ) (pattern : ℕ) → plan ≡ decoded_of (plan_of b) → owner ≡ padded 256 (owners (plan_of b).jobs)
     → pattern ≡ pattern_at (head_of b) → ◌≡◌ {A = Reading} (record { outcome = Accepted; plan = plan; owner = owner; pattern = pattern }) (accepted b)
 whole b plan owner pattern p q r = λ i. record { outcome = Accepted; plan = p i; owner = q i; pattern = r i }
 
-read-head-requires : tie.Need-read-head-requires
-read-head-requires c κs = omega (arith, (framed c.before.args.plan.now c.before.requires.0).long)
+read_head-h-requires : tie.Need-read_head-h-requires
+read_head-h-requires c κs = omega (arith, (framed c.before.args.plan.now c.before.requires.0).long)
 
-decode-requires : tie.Need-decode-requires
-decode-requires c κs =
+decode-d-requires : tie.Need-decode-d-requires
+decode-d-requires c κs =
     let s = c.before.before.before in
     let b = s.args.plan.now in
-    (rw c.before.read_head.ensures (readable b (framed b s.requires.0)), s.requires.1)
+    (rw c.before.read_head-h.ensures (readable b (framed b s.requires.0)), s.requires.1)
 
-sizes-wrong-requires : tie.Need-sizes-wrong-requires
-sizes-wrong-requires c κs = jobs_few (read c)
+sizes_wrong-requires : tie.Need-sizes_wrong-requires
+sizes_wrong-requires c κs = jobs_few (read c)
 
-turned-down-requires : tie.Need-turned-down-requires
-turned-down-requires c κs = search rules
+turned_down-requires : tie.Need-turned_down-requires
+turned_down-requires c κs = search rules
 
-returns : tie.Need-returns
-returns c =
+returns-then-sizes_wrong : tie.Need-returns-then-sizes_wrong
+returns-then-sizes_wrong c =
     let w = c.before.before in
     let r = w.before in
-    (c.turned_down.ensures ∙ sym (ap (λ (o : Option ℕ). answered o (bytes r)) (sizes_refused (read r) w.sizes-wrong.ensures c.before.if1.true)), worded (read r))
+    (c.turned_down.ensures ∙ sym (ap (λ (o : Option ℕ). answered o (bytes r)) (sizes_refused (read r) w.sizes_wrong.ensures c.before.if-sizes_wrong.true)), worded (read r))
 
-owners-of-requires : tie.Need-owners-of-requires
-owners-of-requires c κs =
+owners_of-owner-requires : tie.Need-owners_of-owner-requires
+owners_of-owner-requires c κs =
     let r = read c.before.before in
-    (jobs_few r, nodes_few r c.before.sizes-wrong.ensures c.if1.false)
+    (jobs_few r, nodes_few r c.before.sizes_wrong.ensures c.if-sizes_wrong.false)
 
-bounded-requires : tie.Need-bounded-requires
-bounded-requires c κs =
+bounded-found-requires : tie.Need-bounded-found-requires
+bounded-found-requires c κs =
     let o = c.before.before in
     let r = o.before.before.before in
-    (plan_of (bytes r), lent_of (read r) o.owners_of.ensures)
+    (plan_of (bytes r), lent_of (read r) o.owners_of-owner.ensures)
 
-enum-known-found : tie.Need-enum-known-found
-enum-known-found c = search rules
+enum_known-found : tie.Need-enum_known-found
+enum_known-found c = search rules
 
-turned-down-requires-2 : tie.Need-turned-down-requires-2
-turned-down-requires-2 c κs = search rules
+turned_down-requires-in-Refused : tie.Need-turned_down-requires-in-Refused
+turned_down-requires-in-Refused c κs = search rules
 
-enum_told : tie.Need-enum-told
-enum_told c = search rules
+enum_told-1 : tie.Need-enum_told-1
+enum_told-1 c = search rules
 
-end-of-requires : tie.Need-end-of-requires
-end-of-requires c κs =
+end_of-requires : tie.Need-end_of-requires
+end_of-requires c κs =
     let n = counts (read (decoded c.before.before)) in
     (n.jobs, n.steps, n.channels, n.calls, n.accepts)
 
-add-t17 : tie.Need-overflow-add-t17
-add-t17 c = omega (arith, c.end_of_lem.ensures, counts (read (decoded c.before.before.before)))
+overflow_add-result : tie.Need-overflow_add-result
+overflow_add-result c = omega (arith, c.end_of_lem.ensures, counts (read (decoded c.before.before.before)))
 
-returns-2 : tie.Need-returns-2
-returns-2 c =
+returns-in-Refused : tie.Need-returns-in-Refused
+returns-in-Refused c =
     let f = c.before.before.before.before in
     let b = bytes (decoded f) in
-    let found = c.before.before.found.given in
-    (c.turned-down2.ensures ∙ sym (ap (λ (o : Option ℕ). answered o b) (outcome_refused (first shape (plan_of b)) found.0.0 (bound f ∙ found.1))), worded (read (decoded f)))
+    let found = c.before.before.found-1.given in
+    (c.turned_down-in-Refused.ensures ∙ sym (ap (λ (o : Option ℕ). answered o b) (outcome_refused (first shape (plan_of b)) found.0.0 (bound f ∙ found.1))), worded (read (decoded f)))
 
-returns-3 : tie.Need-returns-3
-returns-3 c =
+returns-in-Accepted : tie.Need-returns-in-Accepted
+returns-in-Accepted c =
     let f = c.before.before.before in
     let b = bytes (decoded f) in
     let r = read (decoded f) in
-    let none-applies = outcome_accepted (first shape (plan_of b)) (bound f ∙ c.before.enum_told.given.1) in
-    (whole b _ _ _ (kept r) (owners_kept r (owned f).owners_of.ensures) (starts r _ c.end_of_lem.ensures) ∙ sym (ap (λ (o : Option ℕ). answered o b) none-applies), worded r)
+    let none-applies = outcome_accepted (first shape (plan_of b)) (bound f ∙ c.before.enum_told-1.given.1) in
+    (whole b _ _ _ (kept r) (owners_kept r (owned f).owners_of-owner.ensures) (starts r _ c.end_of_lem.ensures) ∙ sym (ap (λ (o : Option ℕ). answered o b) none-applies), worded r)
 
-pub read-sections-spec : {M : Type 1} → statement M
-read-sections-spec =
+pub read_sections_spec : {M : Type 1} → statement M
+read_sections_spec =
     tie.close
-    (tie.spec
-    read-head-requires
-    decode-requires
-    sizes-wrong-requires
-    turned-down-requires
-    returns
-    owners-of-requires
-    bounded-requires
-    enum-known-found
-    turned-down-requires-2
-    enum_told
-    end-of-requires
-    add-t17
-    returns-2
-    returns-3)
+    (tie.spec read_head-h-requires decode-d-requires sizes_wrong-requires turned_down-requires returns-then-sizes_wrong owners_of-owner-requires bounded-found-requires enum_known-found turned_down-requires-in-Refused enum_told-1 end_of-requires overflow_add-result returns-in-Refused returns-in-Accepted)

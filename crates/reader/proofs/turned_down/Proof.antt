@@ -13,5 +13,5 @@ returns : tie.Need-returns
 unfolding padded
 returns c = λ i. record { outcome = Refused c.before.args.n; plan = c.blank.ensures i; owner = padded 256 []; pattern = 0 }
 
-pub turned-down-spec : {M : Type 1} → statement M
-turned-down-spec = tie.close (tie.spec blank-requires returns)
+pub turned_down_spec : {M : Type 1} → statement M
+turned_down_spec = tie.close (tie.spec blank-requires returns)

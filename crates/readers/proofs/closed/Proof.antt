@@ -11,42 +11,42 @@ use borrow.Author.Rules.{rules}
 use Rattle.readers.proofs.closed.Statement.{statement}
 use Rattle.readers.proofs.closed.Tie as tie
 
-found : (c : tie.Then1) → let a = c.before.before.before.args in starts_with closing (drop a.at a.text.now) ≡ true
-found c = sym c.before.is_at.ensures ∙ c.if1.true
+found : (c : tie.Then-is_at) → let a = c.before.before.before.args in starts_with closing (drop a.at a.text.now) ≡ true
+found c = sym c.before.is_at.ensures ∙ c.if-is_at.true
 
-within : (c : tie.Then1) → c.before.before.before.args.at < length c.before.before.before.args.text.now
+within : (c : tie.Then-is_at) → c.before.before.before.args.at < length c.before.before.before.args.text.now
 within c = starts_within closing c.before.before.before.args.text.now c.before.before.before.args.at (found c)
 
-is-at-requires : tie.Need-is-at-requires
-is-at-requires c κs = search rules
+is_at-requires : tie.Need-is_at-requires
+is_at-requires c κs = search rules
 
-add-stars : tie.Need-overflow-add-stars
-add-stars c = omega (arith, within c, c.before.before.before.requires.bytes)
+overflow_add-at : tie.Need-overflow_add-at
+overflow_add-at c = omega (arith, within c, c.before.before.before.requires.bytes)
 
-stars-requires : tie.Need-stars-requires
-stars-requires c κs =
+stars-k-requires : tie.Need-stars-k-requires
+stars-k-requires c κs =
     let pre = c.before.before.before.before.requires in
     (record { bytes = pre.bytes; places = pre.places; fewer = omega (arith, pre.fewer) }, omega (arith, within c.before))
 
-add-t8 : tie.Need-overflow-add-t8
-add-t8 c = search rules
+overflow_add-result : tie.Need-overflow_add-result
+overflow_add-result c = search rules
 
-add-t10 : tie.Need-overflow-add-t10
-add-t10 c = search rules
+overflow_add-result-then-is_at : tie.Need-overflow_add-result-then-is_at
+overflow_add-result-then-is_at c = search rules
 
-add-t11 : tie.Need-overflow-add-t11
-add-t11 c = search rules
+overflow_add-result-then-is_at-2 : tie.Need-overflow_add-result-then-is_at-2
+overflow_add-result-then-is_at-2 c = search rules
 
-returns : tie.Need-returns
-returns c =
+returns-then-is_at : tie.Need-returns-then-is_at
+returns-then-is_at c =
     let then = c.before.before in
-    let starred = c.stars.ensures in
+    let starred = c.stars-k.ensures in
     (found then, omega arith, starred.within, omega arith, starred.places, starred.goes)
 
-returns-2 : tie.Need-returns-2
-returns-2 c = sym c.before.is_at.ensures ∙ c.if1.false
+returns-else-is_at : tie.Need-returns-else-is_at
+returns-else-is_at c = sym c.before.is_at.ensures ∙ c.if-is_at.false
 
-pub closed-spec : {M : Type 1} → statement M
-closed-spec =
+pub closed_spec : {M : Type 1} → statement M
+closed_spec =
     tie.close
-    (tie.spec is-at-requires add-stars stars-requires add-t8 add-t10 add-t11 returns returns-2)
+    (tie.spec is_at-requires overflow_add-at stars-k-requires overflow_add-result overflow_add-result-then-is_at overflow_add-result-then-is_at-2 returns-then-is_at returns-else-is_at)

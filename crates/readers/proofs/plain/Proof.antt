@@ -13,37 +13,37 @@ use Rattle.readers.proofs.plain.Statement.{statement}
 use Rattle.readers.proofs.plain.Tie as tie
 
 -- the leaf that was found
-abbrev start : tie.After-known-told → tie.Start
+abbrev start : tie.In-Next → tie.Start
 start c = c.before.before.before.before.before
 
-ended : (c : tie.After-known-told) → let a = (start c).args in Ends (leaf (drop a.at a.text.now)) a.text.now a.at (Next c.before.leaf.given.0.0)
+ended : (c : tie.In-Next) → let a = (start c).args in Ends (leaf (drop a.at a.text.now)) a.text.now a.at (Next c.before.leaf-1.given.0.0)
 ended c =
     let a = (start c).args in
-    subst (λ (e : End). Ends (leaf (drop a.at a.text.now)) a.text.now a.at e) c.before.leaf.given.1 c.before.before.before.leaf-end.ensures
+    subst (λ (e : End). Ends (leaf (drop a.at a.text.now)) a.text.now a.at e) c.before.leaf-1.given.1 c.before.before.before.leaf_end-leaf.ensures
 
-room : (c : tie.After-known-told) → (start c).args.count < length (start c).args.order.now
+room : (c : tie.In-Next) → (start c).args.count < length (start c).args.order.now
 room c = omega (arith, (ended c).2, (ended c).3, (start c).requires.0.bytes, (start c).requires.0.places, (start c).requires.0.fewer)
 
-leaf-end-requires : tie.Need-leaf-end-requires
-leaf-end-requires c κs = search rules
+leaf_end-leaf-requires : tie.Need-leaf_end-leaf-requires
+leaf_end-leaf-requires c κs = search rules
 
-enum_told : tie.Need-enum-told
-enum_told c = search rules
+enum_told-1 : tie.Need-enum_told-1
+enum_told-1 c = search rules
 
-enum-known-leaf : tie.Need-enum-known-leaf
-enum-known-leaf c = search rules
+enum_known-leaf : tie.Need-enum_known-leaf
+enum_known-leaf c = search rules
 
-cast-order : tie.Need-overflow-cast-order
-cast-order c = omega (arith, (ended c).2, (ended c).3, (start c).requires.0.bytes)
+overflow_cast-order : tie.Need-overflow_cast-order
+overflow_cast-order c = omega (arith, (ended c).2, (ended c).3, (start c).requires.0.bytes)
 
-element-write-order : tie.Need-element-write-order
-element-write-order c = omega (arith, (ended c).2, (ended c).3, (start c).requires.0.bytes, (start c).requires.0.fewer)
+bounds-order-count : tie.Need-bounds-order-count
+bounds-order-count c = omega (arith, (ended c).2, (ended c).3, (start c).requires.0.bytes, (start c).requires.0.fewer)
 
-add-stars : tie.Need-overflow-add-stars
-add-stars c = omega (arith, (ended c.before).2, (ended c.before).3, (start c.before).requires.0.bytes, (start c.before).requires.0.fewer)
+overflow_add-count : tie.Need-overflow_add-count
+overflow_add-count c = omega (arith, (ended c.before).2, (ended c.before).3, (start c.before).requires.0.bytes, (start c.before).requires.0.fewer)
 
-stars-requires : tie.Need-stars-requires
-stars-requires c κs =
+stars-k-requires : tie.Need-stars-k-requires
+stars-k-requires c κs =
     let a = (start c.before).args in
     let pre = (start c.before).requires.0 in
     let end = ended c.before in (
@@ -51,28 +51,28 @@ stars-requires c κs =
       end.3,
     )
 
-add-t13 : tie.Need-overflow-add-t13
-add-t13 c = search rules
+overflow_add-result : tie.Need-overflow_add-result
+overflow_add-result c = search rules
 
-add-t14 : tie.Need-overflow-add-t14
-add-t14 c = add-stars c.before
+overflow_add-result-in-Next : tie.Need-overflow_add-result-in-Next
+overflow_add-result-in-Next c = overflow_add-count c.before
 
-add-t15 : tie.Need-overflow-add-t15
-add-t15 c =
+overflow_add-result-in-Next-2 : tie.Need-overflow_add-result-in-Next-2
+overflow_add-result-in-Next-2 c =
     let then = c.before.before in
-    omega (arith, (ended then).2, c.stars.ensures.within, (start then).requires.0.bytes, (start then).requires.0.fewer)
+    omega (arith, (ended then).2, c.stars-k.ensures.within, (start then).requires.0.bytes, (start then).requires.0.fewer)
 
-returns : tie.Need-returns
-returns c =
+returns-in-Broken : tie.Need-returns-in-Broken
+returns-in-Broken c =
     let a = c.before.before.before.before in
-    unfit a.requires.1 (subst (λ (e : End). Ends (leaf (drop a.args.at a.args.text.now)) a.args.text.now a.args.at e) c.enum_told.given.1 c.before.before.leaf-end.ensures)
+    unfit a.requires.1 (subst (λ (e : End). Ends (leaf (drop a.args.at a.args.text.now)) a.args.text.now a.args.at e) c.enum_told-1.given.1 c.before.before.leaf_end-leaf.ensures)
 
-returns-2 : tie.Need-returns-2
-returns-2 c =
+returns-in-Next : tie.Need-returns-in-Next
+returns-in-Next c =
     let then = c.before.before in
     let a = (start then).args in
     let end = ended then in
-    let starred = c.stars.ensures in
+    let starred = c.stars-k.ensures in
     let so = starred.goes end.0 in
     record {
       tree = so.0;
@@ -84,19 +84,7 @@ returns-2 c =
       items = λ n. so.2.items n (items_by n a.text.now a.order.now a.count) (leaf_placed n a.text.now a.order.now a.count a.at end.0 _ (room then) end.1);
     }
 
-pub plain-spec : {M : Type 1} → statement M
-plain-spec =
+pub plain_spec : {M : Type 1} → statement M
+plain_spec =
     tie.close
-    (tie.spec
-    leaf-end-requires
-    enum_told
-    enum-known-leaf
-    cast-order
-    element-write-order
-    add-stars
-    stars-requires
-    add-t13
-    add-t14
-    add-t15
-    returns
-    returns-2)
+    (tie.spec leaf_end-leaf-requires enum_told-1 enum_known-leaf overflow_cast-order bounds-order-count overflow_add-count stars-k-requires overflow_add-result overflow_add-result-in-Next overflow_add-result-in-Next-2 returns-in-Broken returns-in-Next)

@@ -12,5 +12,5 @@ returns c =
     let args = c.before.before.before.args in
     from_start args.text.now args.order.now c.choice.new.1.1.0 c.choice.result c.choice.ensures
 
-pub read-choice-spec : {M : Type 1} → statement M
-read-choice-spec = tie.close (tie.spec choice-requires returns)
+pub read_choice_spec : {M : Type 1} → statement M
+read_choice_spec = tie.close (tie.spec choice-requires returns)

@@ -13,17 +13,17 @@ use borrow.Author.Rules.{rules}
 use Rattle.readers.proofs.stars.Statement.{statement}
 use Rattle.readers.proofs.stars.Tie as tie
 
-abbrev invariant-loop : tie.invariant-loop
-invariant-loop text from order₀ already k₀ order k =
+abbrev invariant-loop-order : tie.invariant-loop-order
+invariant-loop-order text from order₀ already k₀ order k =
     (from + k ≤ length text)
     × (length order ≡ 256)
     × ((t : Tree) → (s : Tree) × (stars t (drop from text) ≡ stars s (drop (from + k) text)) × Continued text order₀ already order (already + k) t s)
 
-abbrev decreases-loop : tie.decreases-loop
-decreases-loop text from order₀ already k₀ order k = length text - (from + k)
+abbrev decreases-loop-order : tie.decreases-loop-order
+decreases-loop-order text from order₀ already k₀ order k = length text - (from + k)
 
-loop-holds : tie.Need-loop-init invariant-loop decreases-loop
-loop-holds c =
+loop-order-init : tie.Need-loop-order-init invariant-loop-order decreases-loop-order
+loop-order-init c =
     let args = c.before.args in
     let e : args.from + 0 ≡ args.from = omega arith in
     let n : args.already + 0 ≡ args.already = omega arith in (
@@ -32,21 +32,21 @@ loop-holds c =
       λ t. (t, ap (λ (i : ℕ). stars t (drop i args.text.now)) (sym e), record { items = λ a pre q. rw n q }),
     )
 
-add-is-at : tie.Need-overflow-add-is-at invariant-loop decreases-loop
-add-is-at c = omega (arith, c.loop.invariant.0, c.before.before.requires.0.bytes)
+overflow_add-from : tie.Need-overflow_add-from invariant-loop-order decreases-loop-order
+overflow_add-from c = omega (arith, c.loop-order.invariant.0, c.before.before.requires.0.bytes)
 
-is-at-requires : tie.Need-is-at-requires invariant-loop decreases-loop
-is-at-requires c κs = search rules
+is_at-requires : tie.Need-is_at-requires invariant-loop-order decreases-loop-order
+is_at-requires c κs = search rules
 
-module _ (c : tie.Then1 invariant-loop decreases-loop) where
-  abbrev start : tie.Start invariant-loop decreases-loop
+module _ (c : tie.In-loop-order invariant-loop-order decreases-loop-order) where
+  abbrev start : tie.Start invariant-loop-order decreases-loop-order
   start = c.before.before.before.before
 
   abbrev here : ℕ
-  here = start.args.from + c.before.before.loop.k
+  here = start.args.from + c.before.before.loop-order.k
 
   star : starts_with asterisk (drop here start.args.text.now) ≡ true
-  star = sym c.before.is_at.ensures ∙ c.if1.true
+  star = sym c.before.is_at.ensures ∙ c.loop-order-test.true
 
   within : here < length start.args.text.now
   within = starts_within asterisk start.args.text.now here star
@@ -57,28 +57,28 @@ module _ (c : tie.Then1 invariant-loop decreases-loop) where
   fewer : start.args.already ≤ start.args.from
   fewer = start.pre.0.fewer
 
-add-order : tie.Need-overflow-add-order invariant-loop decreases-loop
-add-order c = omega (arith, within c, short c)
+overflow_add-order : tie.Need-overflow_add-order invariant-loop-order decreases-loop-order
+overflow_add-order c = omega (arith, within c, short c)
 
-cast-order : tie.Need-overflow-cast-order invariant-loop decreases-loop
-cast-order c = omega (arith, within c, short c)
+overflow_cast-order : tie.Need-overflow_cast-order invariant-loop-order decreases-loop-order
+overflow_cast-order c = omega (arith, within c, short c)
 
-add-order-2 : tie.Need-overflow-add-order-2 invariant-loop decreases-loop
-add-order-2 c = omega (arith, within c, short c, fewer c)
+overflow_add-order-in-loop-order : tie.Need-overflow_add-order-in-loop-order invariant-loop-order decreases-loop-order
+overflow_add-order-in-loop-order c = omega (arith, within c, short c, fewer c)
 
-element-write-order : tie.Need-element-write-order invariant-loop decreases-loop
-element-write-order c = omega (arith, within c, short c, fewer c)
+bounds-order-already : tie.Need-bounds-order-already invariant-loop-order decreases-loop-order
+bounds-order-already c = omega (arith, within c, short c, fewer c)
 
-add-k : tie.Need-overflow-add-k invariant-loop decreases-loop
-add-k c = omega (arith, within c, short c)
+overflow_add-k : tie.Need-overflow_add-k invariant-loop-order decreases-loop-order
+overflow_add-k c = omega (arith, within c, short c)
 
-loop-less : tie.Need-loop-smaller invariant-loop decreases-loop
-loop-less c = omega (arith, within c)
+loop-order-smaller : tie.Need-loop-order-smaller invariant-loop-order decreases-loop-order
+loop-order-smaller c = omega (arith, within c)
 
-loop-again : tie.Need-loop-preserved invariant-loop decreases-loop
-loop-again c =
+loop-order-preserved : tie.Need-loop-order-preserved invariant-loop-order decreases-loop-order
+loop-order-preserved c =
     let args = (start c).args in
-    let loop = c.before.before.loop in
+    let loop = c.before.before.loop-order in
     let n = args.already + loop.k in
     let e : here c + 1 ≡ args.from + (loop.k + 1) = omega arith in
     let m : n + 1 ≡ args.already + (loop.k + 1) = omega arith in
@@ -93,31 +93,18 @@ loop-again c =
           ),
     )
 
-returns : tie.Need-returns invariant-loop decreases-loop
+returns : tie.Need-returns invariant-loop-order decreases-loop-order
 returns c =
     let args = c.before.before.before.before.args in
-    let loop = c.before.before.loop in
-    let none = sym c.before.is_at.ensures ∙ c.if1.false in
+    let loop = c.before.before.loop-order in
+    let none = sym c.before.is_at.ensures ∙ c.loop-order-test.false in
     record {
       places = loop.invariant.1;
       within = loop.invariant.0;
       goes = λ t. let so = loop.invariant.2 t in (so.0, so.1 ∙ stars_end so.0 (drop (args.from + loop.k) args.text.now) none, so.2);
     }
 
-pub stars-spec : {M : Type 1} → statement M
-stars-spec =
+pub stars_spec : {M : Type 1} → statement M
+stars_spec =
     tie.close
-    (tie.spec
-    invariant-loop
-    decreases-loop
-    loop-holds
-    add-is-at
-    is-at-requires
-    add-order
-    cast-order
-    add-order-2
-    element-write-order
-    add-k
-    loop-less
-    loop-again
-    returns)
+    (tie.spec invariant-loop-order decreases-loop-order loop-order-init overflow_add-from is_at-requires overflow_add-order overflow_cast-order overflow_add-order-in-loop-order bounds-order-already overflow_add-k loop-order-smaller loop-order-preserved returns)

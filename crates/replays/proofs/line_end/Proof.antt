@@ -5,43 +5,34 @@ use lib.ListN.{length}
 use Rattle.replays.proofs.line_end.Statement.{statement}
 use Rattle.replays.proofs.line_end.Tie as tie
 
-abbrev invariant-loop : tie.invariant-loop
-invariant-loop input at end₀ end = (at ≤ end) × (end ≤ length input)
+abbrev invariant-loop-end : tie.invariant-loop-end
+invariant-loop-end input at end₀ end = (at ≤ end) × (end ≤ length input)
 
-abbrev decreases-loop : tie.decreases-loop
-decreases-loop input at end₀ end = length input - end
+abbrev decreases-loop-end : tie.decreases-loop-end
+decreases-loop-end input at end₀ end = length input - end
 
-loop-holds : tie.Need-loop-init invariant-loop decreases-loop
-loop-holds c = (omega arith, omega arith)
+loop-end-init : tie.Need-loop-end-init invariant-loop-end decreases-loop-end
+loop-end-init c = (omega arith, omega arith)
 
-shared-slice-read-if1 : tie.Need-shared-slice-read-if1 invariant-loop decreases-loop
-shared-slice-read-if1 c = omega arith
+bounds-input-end : tie.Need-bounds-input-end invariant-loop-end decreases-loop-end
+bounds-input-end c = omega arith
 
-add-end : tie.Need-overflow-add-end invariant-loop decreases-loop
-add-end c = omega arith
+overflow_add-end : tie.Need-overflow_add-end invariant-loop-end decreases-loop-end
+overflow_add-end c = omega arith
 
-loop-less : tie.Need-loop-smaller invariant-loop decreases-loop
-loop-less c = omega arith
+loop-end-smaller : tie.Need-loop-end-smaller invariant-loop-end decreases-loop-end
+loop-end-smaller c = omega arith
 
-loop-again : tie.Need-loop-preserved invariant-loop decreases-loop
-loop-again c = (omega arith, omega arith)
+loop-end-preserved : tie.Need-loop-end-preserved invariant-loop-end decreases-loop-end
+loop-end-preserved c = (omega arith, omega arith)
 
-returns : tie.Need-returns invariant-loop decreases-loop
-returns c = (omega arith, omega arith)
+returns-after-loop-end : tie.Need-returns-after-loop-end invariant-loop-end decreases-loop-end
+returns-after-loop-end c = (omega arith, omega arith)
 
-returns-2 : tie.Need-returns-2 invariant-loop decreases-loop
-returns-2 c = (omega arith, omega arith)
+returns-then-input-end-eq10 : tie.Need-returns-then-input-end-eq10 invariant-loop-end decreases-loop-end
+returns-then-input-end-eq10 c = (omega arith, omega arith)
 
-pub line-end-spec : {M : Type 1} → statement M
-line-end-spec =
+pub line_end_spec : {M : Type 1} → statement M
+line_end_spec =
     tie.close
-    (tie.spec
-    invariant-loop
-    decreases-loop
-    loop-holds
-    shared-slice-read-if1
-    add-end
-    loop-less
-    loop-again
-    returns
-    returns-2)
+    (tie.spec invariant-loop-end decreases-loop-end loop-end-init bounds-input-end overflow_add-end loop-end-smaller loop-end-preserved returns-after-loop-end returns-then-input-end-eq10)

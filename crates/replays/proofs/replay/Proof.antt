@@ -5,27 +5,22 @@ use borrow.Author.Rules.{rules}
 use Rattle.replays.proofs.replay.Statement.{statement}
 use Rattle.replays.proofs.replay.Tie as tie
 
-array-borrow-prefix-lent : tie.Need-array-borrow-prefix-lent
-array-borrow-prefix-lent c = search rules
+slice_bounds-lent-end : tie.Need-slice_bounds-lent-end
+slice_bounds-lent-end c = search rules
 
-slice-aggregate-row : tie.Need-slice-aggregate-row
-slice-aggregate-row c = simp length-take (omega arith)
+slice_bounds-row-end : tie.Need-slice_bounds-row-end
+slice_bounds-row-end c = simp length-take (omega arith)
 
-judge-text-requires : tie.Need-judge-text-requires
-judge-text-requires c κs = search rules
+judge_text-answer-requires : tie.Need-judge_text-answer-requires
+judge_text-answer-requires c κs = search rules
 
-print-case-requires : tie.Need-print-case-requires
-print-case-requires c κs = search rules
+print_case-requires : tie.Need-print_case-requires
+print_case-requires c κs = search rules
 
 returns : tie.Need-returns
 returns c = search rules
 
-pub replay-spec : {M : Type 1} → statement M
-replay-spec =
+pub replay_spec : {M : Type 1} → statement M
+replay_spec =
     tie.close
-    (tie.spec
-    array-borrow-prefix-lent
-    slice-aggregate-row
-    judge-text-requires
-    print-case-requires
-    returns)
+    (tie.spec slice_bounds-lent-end slice_bounds-row-end judge_text-answer-requires print_case-requires returns)

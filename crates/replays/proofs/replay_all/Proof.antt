@@ -6,55 +6,43 @@ use lib.ListN.{length}
 use Rattle.replays.proofs.replay_all.Statement.{statement}
 use Rattle.replays.proofs.replay_all.Tie as tie
 
-abbrev invariant-loop : tie.invariant-loop
-invariant-loop input at₀ at = at ≤ length input + 1
+abbrev invariant-loop-at : tie.invariant-loop-at
+invariant-loop-at input at₀ at = at ≤ length input + 1
 
-abbrev decreases-loop : tie.decreases-loop
-decreases-loop input at₀ at = length input - at
+abbrev decreases-loop-at : tie.decreases-loop-at
+decreases-loop-at input at₀ at = length input - at
 
-loop-holds : tie.Need-loop-init invariant-loop decreases-loop
-loop-holds c = omega arith
+loop-at-init : tie.Need-loop-at-init invariant-loop-at decreases-loop-at
+loop-at-init c = omega arith
 
-line-end-requires : tie.Need-line-end-requires invariant-loop decreases-loop
-line-end-requires c κs = omega arith
+line_end-end-requires : tie.Need-line_end-end-requires invariant-loop-at decreases-loop-at
+line_end-end-requires c κs = omega arith
 
-sub-replay-line : tie.Need-overflow-sub-replay-line invariant-loop decreases-loop
-sub-replay-line c = omega arith
+slice_bounds-replay_line-count : tie.Need-slice_bounds-replay_line-count invariant-loop-at decreases-loop-at
+slice_bounds-replay_line-count c = omega arith
 
-part-replay-line-start : tie.Need-slice-bounds-replay-line-start invariant-loop decreases-loop
-part-replay-line-start c = omega arith
+slice_bounds-replay_line-start : tie.Need-slice_bounds-replay_line-start invariant-loop-at decreases-loop-at
+slice_bounds-replay_line-start c = omega arith
 
-part-replay-line-end : tie.Need-slice-bounds-replay-line-end invariant-loop decreases-loop
-part-replay-line-end c = omega arith
+slice_bounds-replay_line-end : tie.Need-slice_bounds-replay_line-end invariant-loop-at decreases-loop-at
+slice_bounds-replay_line-end c = omega arith
 
-replay-line-requires : tie.Need-replay-line-requires invariant-loop decreases-loop
-replay-line-requires c κs = search rules
+replay_line-requires : tie.Need-replay_line-requires invariant-loop-at decreases-loop-at
+replay_line-requires c κs = search rules
 
-add_at : tie.Need-overflow-add-at invariant-loop decreases-loop
-add_at c = omega arith
+overflow_add-at : tie.Need-overflow_add-at invariant-loop-at decreases-loop-at
+overflow_add-at c = omega arith
 
-loop-less : tie.Need-loop-smaller invariant-loop decreases-loop
-loop-less c = omega arith
+loop-at-smaller : tie.Need-loop-at-smaller invariant-loop-at decreases-loop-at
+loop-at-smaller c = omega arith
 
-loop-again : tie.Need-loop-preserved invariant-loop decreases-loop
-loop-again c = omega arith
+loop-at-preserved : tie.Need-loop-at-preserved invariant-loop-at decreases-loop-at
+loop-at-preserved c = omega arith
 
-returns : tie.Need-returns invariant-loop decreases-loop
+returns : tie.Need-returns invariant-loop-at decreases-loop-at
 returns c = search rules
 
-pub replay-all-spec : {M : Type 1} → statement M
-replay-all-spec =
+pub replay_all_spec : {M : Type 1} → statement M
+replay_all_spec =
     tie.close
-    (tie.spec
-    invariant-loop
-    decreases-loop
-    loop-holds
-    line-end-requires
-    sub-replay-line
-    part-replay-line-start
-    part-replay-line-end
-    replay-line-requires
-    add_at
-    loop-less
-    loop-again
-    returns)
+    (tie.spec invariant-loop-at decreases-loop-at loop-at-init line_end-end-requires slice_bounds-replay_line-count slice_bounds-replay_line-start slice_bounds-replay_line-end replay_line-requires overflow_add-at loop-at-smaller loop-at-preserved returns)

@@ -3,23 +3,23 @@ use borrow.Author.Rules.{rules}
 use Rattle.report.proofs.line_for.Statement.{statement}
 use Rattle.report.proofs.line_for.Tie as tie
 
-slice-aggregate-judge : tie.Need-slice-aggregate-judge
-slice-aggregate-judge c = search rules
+slice_bounds-judge-end : tie.Need-slice_bounds-judge-end
+slice_bounds-judge-end c = search rules
 
-judge-requires : tie.Need-judge-requires
-judge-requires c κs = search rules
+judge-answer-requires : tie.Need-judge-answer-requires
+judge-answer-requires c κs = search rules
 
-line-of-requires : tie.Need-line-of-requires
-line-of-requires c κs = search rules
+line_of-requires : tie.Need-line_of-requires
+line_of-requires c κs = search rules
 
 returns : tie.Need-returns
 returns c = record {
-  answer = c.before.before.judge.result;
+  answer = c.before.before.judge-answer.result;
   row = _;
-  judged = c.before.before.judge.ensures;
+  judged = c.before.before.judge-answer.ensures;
   printed = c.Line-of.ensures.0;
   fits = c.Line-of.ensures.1;
 }
 
-pub line-for-spec : {M : Type 1} → statement M
-line-for-spec = tie.close (tie.spec slice-aggregate-judge judge-requires line-of-requires returns)
+pub line_for_spec : {M : Type 1} → statement M
+line_for_spec = tie.close (tie.spec slice_bounds-judge-end judge-answer-requires line_of-requires returns)

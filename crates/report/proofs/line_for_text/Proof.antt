@@ -3,23 +3,23 @@ use borrow.Author.Rules.{rules}
 use Rattle.report.proofs.line_for_text.Statement.{statement}
 use Rattle.report.proofs.line_for_text.Tie as tie
 
-slice-aggregate-judge-text : tie.Need-slice-aggregate-judge-text
-slice-aggregate-judge-text c = search rules
+slice_bounds-judge_text-end : tie.Need-slice_bounds-judge_text-end
+slice_bounds-judge_text-end c = search rules
 
-judge-text-requires : tie.Need-judge-text-requires
-judge-text-requires c κs = search rules
+judge_text-told-requires : tie.Need-judge_text-told-requires
+judge_text-told-requires c κs = search rules
 
-line-of-requires : tie.Need-line-of-requires
-line-of-requires c κs = search rules
+line_of-requires : tie.Need-line_of-requires
+line_of-requires c κs = search rules
 
 returns : tie.Need-returns
 returns c = record {
-  answer = c.before.before.judge-text.result;
+  answer = c.before.before.judge_text-told.result;
   row = _;
-  judged = c.before.before.judge-text.ensures;
+  judged = c.before.before.judge_text-told.ensures;
   printed = c.Line-of.ensures.0;
   fits = c.Line-of.ensures.1;
 }
 
-pub line-for-text-spec : {M : Type 1} → statement M
-line-for-text-spec = tie.close (tie.spec slice-aggregate-judge-text judge-text-requires line-of-requires returns)
+pub line_for_text_spec : {M : Type 1} → statement M
+line_for_text_spec = tie.close (tie.spec slice_bounds-judge_text-end judge_text-told-requires line_of-requires returns)

@@ -7,5 +7,5 @@ use Rattle.sections.proofs.byte.Tie as tie
 returns : tie.Need-returns
 returns c = (refl, omega arith)
 
-pub byte-spec : {M : Type 1} → statement M
-byte-spec = tie.close (tie.spec returns)
+pub byte_spec : {M : Type 1} → statement M
+byte_spec = tie.close (tie.spec returns)

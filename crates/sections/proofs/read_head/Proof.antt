@@ -30,25 +30,16 @@ field-requires-8 c κs = search rules
 returns : tie.Need-returns
 returns c = λ i. record {
   jobs = c.before.before.before.before.before.before.before.field.ensures i;
-  nodes = c.before.before.before.before.before.before.field2.ensures i;
-  steps = c.before.before.before.before.before.field3.ensures i;
-  calls = c.before.before.before.before.field4.ensures i;
-  accepts = c.before.before.before.field5.ensures i;
-  channels = c.before.before.field6.ensures i;
-  kind = c.before.field7.ensures i;
-  items = c.field8.ensures i;
+  nodes = c.before.before.before.before.before.before.field-2.ensures i;
+  steps = c.before.before.before.before.before.field-3.ensures i;
+  calls = c.before.before.before.before.field-4.ensures i;
+  accepts = c.before.before.before.field-5.ensures i;
+  channels = c.before.before.field-6.ensures i;
+  kind = c.before.field-7.ensures i;
+  items = c.field-8.ensures i;
 }
 
-pub read-head-spec : {M : Type 1} → statement M
-read-head-spec =
+pub read_head_spec : {M : Type 1} → statement M
+read_head_spec =
     tie.close
-    (tie.spec
-    field-requires
-    field-requires-2
-    field-requires-3
-    field-requires-4
-    field-requires-5
-    field-requires-6
-    field-requires-7
-    field-requires-8
-    returns)
+    (tie.spec field-requires field-requires-2 field-requires-3 field-requires-4 field-requires-5 field-requires-6 field-requires-7 field-requires-8 returns)

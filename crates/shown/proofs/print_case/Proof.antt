@@ -6,49 +6,34 @@ use borrow.Author.Rules.{rules}
 use Rattle.shown.proofs.print_case.Statement.{statement}
 use Rattle.shown.proofs.print_case.Tie as tie
 
-line-of-requires : tie.Need-line-of-requires
-line-of-requires c κs = search rules
+line_of-line-requires : tie.Need-line_of-line-requires
+line_of-line-requires c κs = search rules
 
-write-all-requires : tie.Need-write-all-requires
-write-all-requires c κs = search rules
+write_all-requires : tie.Need-write_all-requires
+write_all-requires c κs = search rules
 
-slice-aggregate-write-all : tie.Need-slice-aggregate-write-all
-slice-aggregate-write-all c = search rules
+slice_bounds-write_all-end-2 : tie.Need-slice_bounds-write_all-end-2
+slice_bounds-write_all-end-2 c = search rules
 
-write-all-requires-2 : tie.Need-write-all-requires-2
-write-all-requires-2 c κs = search rules
+write_all-requires-2 : tie.Need-write_all-requires-2
+write_all-requires-2 c κs = search rules
 
-array-share-prefix-bytes : tie.Need-array-share-prefix-bytes
-array-share-prefix-bytes c =
+slice_bounds-bytes-end : tie.Need-slice_bounds-bytes-end
+slice_bounds-bytes-end c =
     let told = c.before.before.before.before.Line-of in
-    let long : length told.result.bytes ≡ 128 = search rules in
+    let long : length told.result.bytes-1 ≡ 128 = search rules in
     omega (arith, told.ensures.1)
 
-slice-aggregate-write-all-2 : tie.Need-slice-aggregate-write-all-2
-slice-aggregate-write-all-2 c =
-    let told = c.before.before.before.before.before.Line-of in
-    let long : length told.result.bytes ≡ 128 = search rules in
-    simp length-take (omega (arith, told.ensures.1))
+write_all-requires-3 : tie.Need-write_all-requires-3
+write_all-requires-3 c κs = search rules
 
-write-all-requires-3 : tie.Need-write-all-requires-3
-write-all-requires-3 c κs = search rules
-
-print-row-requires : tie.Need-print-row-requires
-print-row-requires c κs = search rules
+print_row-requires : tie.Need-print_row-requires
+print_row-requires c κs = search rules
 
 returns : tie.Need-returns
 returns c = search rules
 
-pub print-case-spec : {M : Type 1} → statement M
-print-case-spec =
+pub print_case_spec : {M : Type 1} → statement M
+print_case_spec =
     tie.close
-    (tie.spec
-    line-of-requires
-    write-all-requires
-    slice-aggregate-write-all
-    write-all-requires-2
-    array-share-prefix-bytes
-    slice-aggregate-write-all-2
-    write-all-requires-3
-    print-row-requires
-    returns)
+    (tie.spec line_of-line-requires write_all-requires write_all-requires-2 slice_bounds-bytes-end slice_bounds-write_all-end-2 write_all-requires-3 print_row-requires returns)

@@ -6,71 +6,46 @@ use lib.ListN.{length}
 use Rattle.shown.proofs.print_row.Statement.{statement}
 use Rattle.shown.proofs.print_row.Tie as tie
 
-abbrev invariant-loop : tie.invariant-loop
-invariant-loop row n₀ t4 t5 n = n ≤ length row
+abbrev invariant-loop-n : tie.invariant-loop-n
+invariant-loop-n row n₀ t4 t5 n = n ≤ length row
 
-abbrev decreases-loop : tie.decreases-loop
-decreases-loop row n₀ t4 t5 n = length row - n
+abbrev decreases-loop-n : tie.decreases-loop-n
+decreases-loop-n row n₀ t4 t5 n = length row - n
 
-slice-aggregate-write-all : tie.Need-slice-aggregate-write-all invariant-loop decreases-loop
-slice-aggregate-write-all c = search rules
+write_all-requires : tie.Need-write_all-requires invariant-loop-n decreases-loop-n
+write_all-requires c κs = search rules
 
-write-all-requires : tie.Need-write-all-requires invariant-loop decreases-loop
-write-all-requires c κs = search rules
+loop-n-init : tie.Need-loop-n-init invariant-loop-n decreases-loop-n
+loop-n-init c = omega arith
 
-loop-holds : tie.Need-loop-init invariant-loop decreases-loop
-loop-holds c = omega arith
+write_all-requires-in-loop-n : tie.Need-write_all-requires-in-loop-n invariant-loop-n decreases-loop-n
+write_all-requires-in-loop-n c κs = search rules
 
-slice-aggregate-write-all-2 : tie.Need-slice-aggregate-write-all-2 invariant-loop decreases-loop
-slice-aggregate-write-all-2 c = search rules
+offset_bounds-row-n : tie.Need-offset_bounds-row-n invariant-loop-n decreases-loop-n
+offset_bounds-row-n c = omega arith
 
-write-all-requires-2 : tie.Need-write-all-requires-2 invariant-loop decreases-loop
-write-all-requires-2 c κs = search rules
+bounds-row-n : tie.Need-bounds-row-n invariant-loop-n decreases-loop-n
+bounds-row-n c = omega arith
 
-mul-print-hex : tie.Need-overflow-mul-print-hex invariant-loop decreases-loop
-mul-print-hex c = omega arith
+print_hex-requires : tie.Need-print_hex-requires invariant-loop-n decreases-loop-n
+print_hex-requires c κs = search rules
 
-shared-slice-read-print-hex : tie.Need-shared-slice-read-print-hex invariant-loop decreases-loop
-shared-slice-read-print-hex c = omega arith
+overflow_add-n : tie.Need-overflow_add-n invariant-loop-n decreases-loop-n
+overflow_add-n c = omega arith
 
-print-hex-requires : tie.Need-print-hex-requires invariant-loop decreases-loop
-print-hex-requires c κs = search rules
+loop-n-smaller : tie.Need-loop-n-smaller invariant-loop-n decreases-loop-n
+loop-n-smaller c = omega arith
 
-add-n : tie.Need-overflow-add-n invariant-loop decreases-loop
-add-n c = omega arith
+loop-n-preserved : tie.Need-loop-n-preserved invariant-loop-n decreases-loop-n
+loop-n-preserved c = omega arith
 
-loop-less : tie.Need-loop-smaller invariant-loop decreases-loop
-loop-less c = omega arith
+write_all-requires-2 : tie.Need-write_all-requires-2 invariant-loop-n decreases-loop-n
+write_all-requires-2 c κs = search rules
 
-loop-again : tie.Need-loop-preserved invariant-loop decreases-loop
-loop-again c = omega arith
-
-slice-aggregate-write-all-3 : tie.Need-slice-aggregate-write-all-3 invariant-loop decreases-loop
-slice-aggregate-write-all-3 c = search rules
-
-write-all-requires-3 : tie.Need-write-all-requires-3 invariant-loop decreases-loop
-write-all-requires-3 c κs = search rules
-
-returns : tie.Need-returns invariant-loop decreases-loop
+returns : tie.Need-returns invariant-loop-n decreases-loop-n
 returns c = search rules
 
-pub print-row-spec : {M : Type 1} → statement M
-print-row-spec =
+pub print_row_spec : {M : Type 1} → statement M
+print_row_spec =
     tie.close
-    (tie.spec
-    invariant-loop
-    decreases-loop
-    slice-aggregate-write-all
-    write-all-requires
-    loop-holds
-    slice-aggregate-write-all-2
-    write-all-requires-2
-    mul-print-hex
-    shared-slice-read-print-hex
-    print-hex-requires
-    add-n
-    loop-less
-    loop-again
-    slice-aggregate-write-all-3
-    write-all-requires-3
-    returns)
+    (tie.spec invariant-loop-n decreases-loop-n write_all-requires loop-n-init write_all-requires-in-loop-n offset_bounds-row-n bounds-row-n print_hex-requires overflow_add-n loop-n-smaller loop-n-preserved write_all-requires-2 returns)

@@ -12,44 +12,37 @@ use borrow.Author.Rules.{rules}
 use Rattle.symbols.proofs.bracketed_from.Statement.{statement}
 use Rattle.symbols.proofs.bracketed_from.Tie as tie
 
-is-at-requires : tie.Need-is-at-requires
-is-at-requires c κs = search rules
+is_at-requires : tie.Need-is_at-requires
+is_at-requires c κs = search rules
 
-found : (c : tie.Then1) → starts_with caret (drop c.before.before.before.args.at c.before.before.before.args.text.now) ≡ true
-found c = sym c.before.is_at.ensures ∙ c.if1.true
+found : (c : tie.Then-is_at) → starts_with caret (drop c.before.before.before.args.at c.before.before.before.args.text.now) ≡ true
+found c = sym c.before.is_at.ensures ∙ c.if-is_at.true
 
-add-listed-from : tie.Need-overflow-add-listed-from
-add-listed-from c =
+overflow_add-at : tie.Need-overflow_add-at
+overflow_add-at c =
     let args = c.before.before.before.args in
     omega (arith, starts_within caret args.text.now args.at (found c))
 
-listed-from-requires : tie.Need-listed-from-requires
-listed-from-requires c κs = search rules
+listed_from-requires : tie.Need-listed_from-requires
+listed_from-requires c κs = search rules
 
 without-requires : tie.Need-without-requires
 without-requires c κs = search rules
 
-returns : tie.Need-returns
-returns c =
+returns-then-is_at : tie.Need-returns-then-is_at
+returns-then-is_at c =
     let args = c.before.before.before.before.before.args in
     c.without.ensures
-    ∙ ap (λ (n : ℕ). args.alphabet - bit_and args.alphabet n) c.before.listed-from.ensures
+    ∙ ap (λ (n : ℕ). args.alphabet - bit_and args.alphabet n) c.before.listed_from.ensures
     ∙ sym (ap (set_from args.alphabet) (starts_cons caret args.text.now args.at (found c.before.before)))
 
-listed-from-requires-2 : tie.Need-listed-from-requires-2
-listed-from-requires-2 c κs = search rules
+listed_from-requires-2 : tie.Need-listed_from-requires-2
+listed_from-requires-2 c κs = search rules
 
-returns-2 : tie.Need-returns-2
-returns-2 c = rw (sym c.before.before.is_at.ensures ∙ c.before.if1.false) c.listed-from2.ensures
+returns : tie.Need-returns
+returns c = rw (sym c.before.before.is_at.ensures ∙ c.before.if-is_at.false) c.listed_from-2.ensures
 
-pub bracketed-from-spec : {M : Type 1} → statement M
-bracketed-from-spec =
+pub bracketed_from_spec : {M : Type 1} → statement M
+bracketed_from_spec =
     tie.close
-    (tie.spec
-    is-at-requires
-    add-listed-from
-    listed-from-requires
-    without-requires
-    returns
-    listed-from-requires-2
-    returns-2)
+    (tie.spec is_at-requires overflow_add-at listed_from-requires without-requires returns-then-is_at listed_from-requires-2 returns)

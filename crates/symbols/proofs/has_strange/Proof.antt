@@ -14,39 +14,39 @@ use borrow.Author.Rules.{rules}
 use Rattle.symbols.proofs.has_strange.Statement.{statement}
 use Rattle.symbols.proofs.has_strange.Tie as tie
 
-abbrev invariant-loop : tie.invariant-loop
-invariant-loop text alphabet found₀ i₀ found i = (i ≤ length text) × (found ≡ any (λ e. not (has alphabet e)) (typed_letters (take i text)))
+abbrev invariant-loop-i : tie.invariant-loop-i
+invariant-loop-i text alphabet found₀ i₀ found i = (i ≤ length text) × (found ≡ any (λ e. not (has alphabet e)) (typed_letters (take i text)))
 
-abbrev decreases-loop : tie.decreases-loop
-decreases-loop text alphabet found₀ i₀ found i = length text - i
+abbrev decreases-loop-i : tie.decreases-loop-i
+decreases-loop-i text alphabet found₀ i₀ found i = length text - i
 
-loop-holds : tie.Need-loop-init invariant-loop decreases-loop
+loop-i-init : tie.Need-loop-i-init invariant-loop-i decreases-loop-i
 unfolding typed_letters any_from
-loop-holds c = (omega arith, refl)
+loop-i-init c = (omega arith, refl)
 
-strange-at-requires : tie.Need-strange-at-requires invariant-loop decreases-loop
-strange-at-requires c κs = search rules
+strange_at-found-requires : tie.Need-strange_at-found-requires invariant-loop-i decreases-loop-i
+strange_at-found-requires c κs = search rules
 
-add-i : tie.Need-overflow-add-i invariant-loop decreases-loop
-add-i c = search rules
+overflow_add-i : tie.Need-overflow_add-i invariant-loop-i decreases-loop-i
+overflow_add-i c = search rules
 
-loop-less : tie.Need-loop-smaller invariant-loop decreases-loop
-loop-less c = search rules
+loop-i-smaller : tie.Need-loop-i-smaller invariant-loop-i decreases-loop-i
+loop-i-smaller c = search rules
 
-loop-again : tie.Need-loop-preserved invariant-loop decreases-loop
-loop-again c =
+loop-i-preserved : tie.Need-loop-i-preserved invariant-loop-i decreases-loop-i
+loop-i-preserved c =
     let args = c.before.before.before.before.args in
-    let loop = c.before.before.loop in
-    (omega arith, any_more (λ e. not (has args.alphabet e)) args.text.now loop.i loop.found c.strange-at.result (omega arith) loop.invariant.1 c.strange-at.ensures)
+    let loop = c.before.before.loop-i in
+    (omega arith, any_more (λ e. not (has args.alphabet e)) args.text.now loop.i loop.found c.strange_at-found.result (omega arith) loop.invariant.1 c.strange_at-found.ensures)
 
-returns : tie.Need-returns invariant-loop decreases-loop
+returns : tie.Need-returns invariant-loop-i decreases-loop-i
 returns c =
     let args = c.before.before.before.args in
-    let loop = c.before.loop in
+    let loop = c.before.loop-i in
     let e : loop.i ≡ length args.text.now = omega arith in
     loop.invariant.1 ∙ ap (λ (w : List ℕ). any (λ e. not (has args.alphabet e)) (typed_letters w)) (ap (λ (n : ℕ). take n args.text.now) e ∙ take-length args.text.now)
 
-pub has-strange-spec : {M : Type 1} → statement M
-has-strange-spec =
+pub has_strange_spec : {M : Type 1} → statement M
+has_strange_spec =
     tie.close
-    (tie.spec invariant-loop decreases-loop loop-holds strange-at-requires add-i loop-less loop-again returns)
+    (tie.spec invariant-loop-i decreases-loop-i loop-i-init strange_at-found-requires overflow_add-i loop-i-smaller loop-i-preserved returns)

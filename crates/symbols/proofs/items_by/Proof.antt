@@ -10,13 +10,13 @@ use Rattle.symbols.proofs.items_by.Tie as tie
 kept-requires : tie.Need-kept-requires
 kept-requires c κs = search rules
 
-table-by-requires : tie.Need-table-by-requires
-table-by-requires c κs = search rules
+table_by-requires : tie.Need-table_by-requires
+table_by-requires c κs = search rules
 
 returns : tie.Need-returns
 returns c =
     let args = c.before.before.before.args in
-    subst (λ (n : ℕ). c.table-by.result ≡ item_table (items_by args.alphabet args.text.now args.order.now n)) c.before.kept.ensures.0 c.table-by.ensures
+    subst (λ (n : ℕ). c.table_by.result ≡ item_table (items_by args.alphabet args.text.now args.order.now n)) c.before.kept.ensures.0 c.table_by.ensures
 
-pub items-by-spec : {M : Type 1} → statement M
-items-by-spec = tie.close (tie.spec kept-requires table-by-requires returns)
+pub items_by_spec : {M : Type 1} → statement M
+items_by_spec = tie.close (tie.spec kept-requires table_by-requires returns)

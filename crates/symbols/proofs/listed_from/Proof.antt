@@ -14,63 +14,53 @@ use borrow.Author.Rules.{rules}
 use Rattle.symbols.proofs.listed_from.Statement.{statement}
 use Rattle.symbols.proofs.listed_from.Tie as tie
 
-abbrev invariant-loop : tie.invariant-loop
-invariant-loop text from set₀ at₀ set at = listed (letters (drop from text)) ≡ bit_or set (listed (letters (drop at text)))
+abbrev invariant-loop-set : tie.invariant-loop-set
+invariant-loop-set text from set₀ at₀ set at = listed (letters (drop from text)) ≡ bit_or set (listed (letters (drop at text)))
 
-abbrev decreases-loop : tie.decreases-loop
-decreases-loop text from set₀ at₀ set at = length text - at
+abbrev decreases-loop-set : tie.decreases-loop-set
+decreases-loop-set text from set₀ at₀ set at = length text - at
 
-loop-holds : tie.Need-loop-init invariant-loop decreases-loop
-loop-holds c = refl
+loop-set-init : tie.Need-loop-set-init invariant-loop-set decreases-loop-set
+loop-set-init c = refl
 
-letter-at-requires : tie.Need-letter-at-requires invariant-loop decreases-loop
-letter-at-requires c κs = search rules
+letter_at-requires : tie.Need-letter_at-requires invariant-loop-set decreases-loop-set
+letter_at-requires c κs = search rules
 
-abbrev text : tie.Then1 invariant-loop decreases-loop → List ℕ
+abbrev text : tie.In-loop-set invariant-loop-set decreases-loop-set → List ℕ
 text c = c.before.before.before.before.args.text.now
 
-letter : (c : tie.Then1 invariant-loop decreases-loop) → starts_with_letter (drop c.before.before.loop.at (text c)) ≡ true
-letter c = sym c.before.letter_at.ensures ∙ c.if1.true
+letter : (c : tie.In-loop-set invariant-loop-set decreases-loop-set) → starts_with_letter (drop c.before.before.loop-set.at (text c)) ≡ true
+letter c = sym c.before.letter_at.ensures ∙ c.loop-set-test.true
 
-within : (c : tie.Then1 invariant-loop decreases-loop) → c.before.before.loop.at < length (text c)
-within c = letter_within (text c) c.before.before.loop.at (letter c)
+within : (c : tie.In-loop-set invariant-loop-set decreases-loop-set) → c.before.before.loop-set.at < length (text c)
+within c = letter_within (text c) c.before.before.loop-set.at (letter c)
 
-shared-slice-read-single : tie.Need-shared-slice-read-single invariant-loop decreases-loop
-shared-slice-read-single c = within c.before
+bounds-text-at : tie.Need-bounds-text-at invariant-loop-set decreases-loop-set
+bounds-text-at c = within c.before
 
-single-requires : tie.Need-single-requires invariant-loop decreases-loop
-single-requires c κs = here_letter (text c.before) c.before.before.before.loop.at (letter c.before)
+single-set-requires : tie.Need-single-set-requires invariant-loop-set decreases-loop-set
+single-set-requires c κs = here_letter (text c.before) c.before.before.before.loop-set.at (letter c.before)
 
-add_at : tie.Need-overflow-add-at invariant-loop decreases-loop
-add_at c = omega (arith, within c.before.before)
+overflow_add-at : tie.Need-overflow_add-at invariant-loop-set decreases-loop-set
+overflow_add-at c = omega (arith, within c.before.before)
 
-loop-less : tie.Need-loop-smaller invariant-loop decreases-loop
-loop-less c = omega (arith, within c.before.before)
+loop-set-smaller : tie.Need-loop-set-smaller invariant-loop-set decreases-loop-set
+loop-set-smaller c = omega (arith, within c.before.before)
 
-loop-again : tie.Need-loop-preserved invariant-loop decreases-loop
-loop-again c =
+loop-set-preserved : tie.Need-loop-set-preserved invariant-loop-set decreases-loop-set
+loop-set-preserved c =
     let t = c.before.before in
-    let loop = t.before.before.loop in
+    let loop = t.before.before.loop-set in
     loop.invariant
     ∙ listed_turn loop.set (text t) loop.at (letter t)
-    ∙ ap (λ (n : ℕ). bit_or (bit_or loop.set n) (listed (letters (drop (loop.at + 1) (text t))))) (sym c.single.ensures)
+    ∙ ap (λ (n : ℕ). bit_or (bit_or loop.set n) (listed (letters (drop (loop.at + 1) (text t))))) (sym c.single-set.ensures)
 
-returns : tie.Need-returns invariant-loop decreases-loop
+returns : tie.Need-returns invariant-loop-set decreases-loop-set
 returns c =
-    let loop = c.before.before.loop in
-    sym (loop.invariant ∙ listed_end loop.set _ (sym c.before.letter_at.ensures ∙ c.if1.false))
+    let loop = c.before.before.loop-set in
+    sym (loop.invariant ∙ listed_end loop.set _ (sym c.before.letter_at.ensures ∙ c.loop-set-test.false))
 
-pub listed-from-spec : {M : Type 1} → statement M
-listed-from-spec =
+pub listed_from_spec : {M : Type 1} → statement M
+listed_from_spec =
     tie.close
-    (tie.spec
-    invariant-loop
-    decreases-loop
-    loop-holds
-    letter-at-requires
-    shared-slice-read-single
-    single-requires
-    add_at
-    loop-less
-    loop-again
-    returns)
+    (tie.spec invariant-loop-set decreases-loop-set loop-set-init letter_at-requires bounds-text-at single-set-requires overflow_add-at loop-set-smaller loop-set-preserved returns)

@@ -7,17 +7,17 @@ use borrow.Author.Rules.{rules}
 use Rattle.symbols.proofs.single.Statement.{statement}
 use Rattle.symbols.proofs.single.Tie as tie
 
-sub-result : tie.Need-overflow-sub-result
-sub-result c = omega (arith, letter_event c.args.c c.requires)
+overflow_sub-result : tie.Need-overflow_sub-result
+overflow_sub-result c = omega (arith, letter_event c.args.c c.requires)
 
-cast-result : tie.Need-overflow-cast-result
-cast-result c = search rules
+overflow_cast-result : tie.Need-overflow_cast-result
+overflow_cast-result c = search rules
 
-shl-result : tie.Need-overflow-shl-result
-shl-result c = omega (arith, letter_event c.args.c c.requires)
+overflow_shl-result : tie.Need-overflow_shl-result
+overflow_shl-result c = omega (arith, letter_event c.args.c c.requires)
 
 returns : tie.Need-returns
 returns c = single_code 32 (event_of c.args.c) (omega (arith, letter_event c.args.c c.requires))
 
-pub single-spec : {M : Type 1} → statement M
-single-spec = tie.close (tie.spec sub-result cast-result shl-result returns)
+pub single_spec : {M : Type 1} → statement M
+single_spec = tie.close (tie.spec overflow_sub-result overflow_cast-result overflow_shl-result returns)

@@ -14,49 +14,42 @@ use borrow.Author.Rules.{rules}
 use Rattle.symbols.proofs.strange_at.Statement.{statement}
 use Rattle.symbols.proofs.strange_at.Tie as tie
 
-letter-at-requires : tie.Need-letter-at-requires
-letter-at-requires c κs = search rules
+letter_at-requires : tie.Need-letter_at-requires
+letter_at-requires c κs = search rules
 
-abbrev text : tie.Then1 → List ℕ
+abbrev text : tie.Then-letter_at → List ℕ
 text c = c.before.before.before.args.text.now
 
-abbrev at : tie.Then1 → ℕ
+abbrev at : tie.Then-letter_at → ℕ
 at c = c.before.before.before.args.at
 
-letter : (c : tie.Then1) → starts_with_letter (drop (at c) (text c)) ≡ true
-letter c = sym c.before.letter_at.ensures ∙ c.if1.true
+letter : (c : tie.Then-letter_at) → starts_with_letter (drop (at c) (text c)) ≡ true
+letter c = sym c.before.letter_at.ensures ∙ c.if-letter_at.true
 
-shared-slice-read-has : tie.Need-shared-slice-read-has
-shared-slice-read-has c = letter_within (text c.before) (at c.before) (letter c.before)
+bounds-text-at : tie.Need-bounds-text-at
+bounds-text-at c = letter_within (text c.before) (at c.before) (letter c.before)
 
-sub-has : tie.Need-overflow-sub-has
-sub-has c = omega (arith, here_event (text c.before) (at c.before) (letter c.before))
+overflow_sub-text : tie.Need-overflow_sub-text
+overflow_sub-text c = omega (arith, here_event (text c.before) (at c.before) (letter c.before))
 
-cast-has : tie.Need-overflow-cast-has
-cast-has c = omega (arith, here_event (text c.before) (at c.before) (letter c.before))
+overflow_cast-text : tie.Need-overflow_cast-text
+overflow_cast-text c = omega (arith, here_event (text c.before) (at c.before) (letter c.before))
 
 has-requires : tie.Need-has-requires
 has-requires c κs = omega (arith, here_event (text c.before) (at c.before) (letter c.before))
 
-returns : tie.Need-returns
-returns c =
+returns-then-letter_at : tie.Need-returns-then-letter_at
+returns-then-letter_at c =
     let t = c.before.before in
     let alphabet = t.before.before.before.args.alphabet in
     ap not c.has.ensures ∙ sym (any_letter (λ e. not (has alphabet e)) (place (text t) (at t)) (here_letter (text t) (at t) (letter t)))
 
-returns-2 : tie.Need-returns-2
-returns-2 c =
+returns-else-letter_at : tie.Need-returns-else-letter_at
+returns-else-letter_at c =
     let args = c.before.before.before.args in
-    sym (any_other (λ e. not (has args.alphabet e)) (place args.text.now args.at) (here_other args.text.now args.at (sym c.before.letter_at.ensures ∙ c.if1.false)))
+    sym (any_other (λ e. not (has args.alphabet e)) (place args.text.now args.at) (here_other args.text.now args.at (sym c.before.letter_at.ensures ∙ c.if-letter_at.false)))
 
-pub strange-at-spec : {M : Type 1} → statement M
-strange-at-spec =
+pub strange_at_spec : {M : Type 1} → statement M
+strange_at_spec =
     tie.close
-    (tie.spec
-    letter-at-requires
-    shared-slice-read-has
-    sub-has
-    cast-has
-    has-requires
-    returns
-    returns-2)
+    (tie.spec letter_at-requires bounds-text-at overflow_sub-text overflow_cast-text has-requires returns-then-letter_at returns-else-letter_at)

@@ -19,92 +19,77 @@ use Rattle.symbols.proofs.table_by.Tie as tie
 abbrev item_at : (a : ℕ) → (text order : List ℕ) → ℕ → Item
 item_at a text order i = item_from a (drop (place order i) text)
 
-abbrev invariant-loop : tie.invariant-loop
-invariant-loop text alphabet order count items₀ i₀ items i =
+abbrev invariant-loop-i : tie.invariant-loop-i
+invariant-loop-i text alphabet order count items₀ i₀ items i =
     (i ≤ count)
     × (items.kind ≡ padded 64 (map kind_of (row i (item_at alphabet text order))))
     × (items.set ≡ padded 64 (map set_of (row i (item_at alphabet text order))))
 
-abbrev decreases-loop : tie.decreases-loop
-decreases-loop text alphabet order count items₀ i₀ items i = count - i
+abbrev decreases-loop-i : tie.decreases-loop-i
+decreases-loop-i text alphabet order count items₀ i₀ items i = count - i
 
-blank-requires : tie.Need-blank-requires invariant-loop decreases-loop
-blank-requires c κs = search rules
+blank-items-requires : tie.Need-blank-items-requires invariant-loop-i decreases-loop-i
+blank-items-requires c κs = search rules
 
-loop-holds : tie.Need-loop-init invariant-loop decreases-loop
+loop-i-init : tie.Need-loop-i-init invariant-loop-i decreases-loop-i
 unfolding row
-loop-holds c =
-    let blank = c.blank.ensures in
+loop-i-init c =
+    let blank = c.blank-items.ensures in
     (omega arith, ap (λ (t : Items). t.kind) blank, ap (λ (t : Items). t.set) blank)
 
-element-copy-out-byte : tie.Need-element-copy-out-byte invariant-loop decreases-loop
-element-copy-out-byte c = search rules
+bounds-order-i : tie.Need-bounds-order-i invariant-loop-i decreases-loop-i
+bounds-order-i c = search rules
 
-byte-requires : tie.Need-byte-requires invariant-loop decreases-loop
-byte-requires c κs = search rules
+byte-at-requires : tie.Need-byte-at-requires invariant-loop-i decreases-loop-i
+byte-at-requires c κs = search rules
 
-kind-from-requires : tie.Need-kind-from-requires invariant-loop decreases-loop
-kind-from-requires c κs = search rules
+kind_from-requires : tie.Need-kind_from-requires invariant-loop-i decreases-loop-i
+kind_from-requires c κs = search rules
 
-element-write-items : tie.Need-element-write-items invariant-loop decreases-loop
-element-write-items c = search rules
+bounds-items-i : tie.Need-bounds-items-i invariant-loop-i decreases-loop-i
+bounds-items-i c = search rules
 
-set-from-requires : tie.Need-set-from-requires invariant-loop decreases-loop
-set-from-requires c κs = search rules
+set_from-requires : tie.Need-set_from-requires invariant-loop-i decreases-loop-i
+set_from-requires c κs = search rules
 
-mul-items : tie.Need-overflow-mul-items invariant-loop decreases-loop
-mul-items c = search rules
+offset_bounds-items-i : tie.Need-offset_bounds-items-i invariant-loop-i decreases-loop-i
+offset_bounds-items-i c = search rules
 
-element-write-items-2 : tie.Need-element-write-items-2 invariant-loop decreases-loop
-element-write-items-2 c = search rules
+bounds-items-i-in-loop-i : tie.Need-bounds-items-i-in-loop-i invariant-loop-i decreases-loop-i
+bounds-items-i-in-loop-i c = search rules
 
-add-i : tie.Need-overflow-add-i invariant-loop decreases-loop
-add-i c = search rules
+overflow_add-i : tie.Need-overflow_add-i invariant-loop-i decreases-loop-i
+overflow_add-i c = search rules
 
-loop-less : tie.Need-loop-smaller invariant-loop decreases-loop
-loop-less c = search rules
+loop-i-smaller : tie.Need-loop-i-smaller invariant-loop-i decreases-loop-i
+loop-i-smaller c = search rules
 
-loop-again : tie.Need-loop-preserved invariant-loop decreases-loop
-loop-again c =
+loop-i-preserved : tie.Need-loop-i-preserved invariant-loop-i decreases-loop-i
+loop-i-preserved c =
     let b = c.before.before in
-    let loop = b.before.before.before.loop in
+    let loop = b.before.before.before.loop-i in
     let args = b.before.before.before.before.before.before.args in
     let item = item_at args.alphabet args.text.now args.order.now in
-    let here : item_from args.alphabet (drop b.byte.result args.text.now) ≡ item loop.i = ap (λ (n : ℕ). item_from args.alphabet (drop n args.text.now)) b.byte.ensures.0 in
+    let here : item_from args.alphabet (drop b.byte-at.result args.text.now) ≡ item loop.i = ap (λ (n : ℕ). item_from args.alphabet (drop n args.text.now)) b.byte-at.ensures.0 in
     let few : loop.i < 64 = omega arith in (
       omega arith,
-      ap (λ (l : List ℕ). set l loop.i c.before.kind-from.result) loop.invariant.1
-          ∙ column_more 64 kind_of item loop.i c.before.kind-from.result few (c.before.kind-from.ensures args.alphabet ∙ ap kind_of here),
-      ap (λ (l : List ℕ). set l loop.i c.set-from.result) loop.invariant.2
-          ∙ column_more 64 set_of item loop.i c.set-from.result few (c.set-from.ensures ∙ ap set_of here),
+      ap (λ (l : List ℕ). set l loop.i c.before.kind_from.result) loop.invariant.1
+          ∙ column_more 64 kind_of item loop.i c.before.kind_from.result few (c.before.kind_from.ensures args.alphabet ∙ ap kind_of here),
+      ap (λ (l : List ℕ). set l loop.i c.set_from.result) loop.invariant.2
+          ∙ column_more 64 set_of item loop.i c.set_from.result few (c.set_from.ensures ∙ ap set_of here),
     )
 
-returns : tie.Need-returns invariant-loop decreases-loop
+returns : tie.Need-returns invariant-loop-i decreases-loop-i
 unfolding items_by
 returns c =
     let args = c.before.before.before.before.args in
-    let loop = c.before.loop in
+    let loop = c.before.loop-i in
     let item = item_at args.alphabet args.text.now args.order.now in
     let e : loop.i ≡ args.count = omega arith in
     let kept : ◌≡◌ {A = Items} (record { kind = loop.items.kind; set = loop.items.set; count = loop.i }) (item_table (row loop.i item)) = λ j. record { kind = loop.invariant.1 j; set = loop.invariant.2 j; count = sym (row_length item loop.i) j } in
     (λ j. record { kind = loop.items.kind; set = loop.items.set; count = sym e j }) ∙ kept ∙ ap (λ (n : ℕ). item_table (row n item)) e
 
-pub table-by-spec : {M : Type 1} → statement M
-table-by-spec =
+pub table_by_spec : {M : Type 1} → statement M
+table_by_spec =
     tie.close
-    (tie.spec
-    invariant-loop
-    decreases-loop
-    blank-requires
-    loop-holds
-    element-copy-out-byte
-    byte-requires
-    kind-from-requires
-    element-write-items
-    set-from-requires
-    mul-items
-    element-write-items-2
-    add-i
-    loop-less
-    loop-again
-    returns)
+    (tie.spec invariant-loop-i decreases-loop-i blank-items-requires loop-i-init bounds-order-i byte-at-requires kind_from-requires bounds-items-i set_from-requires offset_bounds-items-i bounds-items-i-in-loop-i overflow_add-i loop-i-smaller loop-i-preserved returns)

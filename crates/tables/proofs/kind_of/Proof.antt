@@ -11,11 +11,11 @@ not_zero : (n : ℕ) → (n ≡ 0 → ⊥) → None ≡ kind_of n
 not_zero zero h = absurd (h refl)
 not_zero (suc n) h = refl
 
-returns : tie.Need-returns
-returns c = search rules
+returns-then-bit-eq0 : tie.Need-returns-then-bit-eq0
+returns-then-bit-eq0 c = search rules
 
-returns-2 : tie.Need-returns-2
-returns-2 c = not_zero c.before.args.bit c.if1.false
+returns-else-bit-eq0 : tie.Need-returns-else-bit-eq0
+returns-else-bit-eq0 c = not_zero c.before.args.bit c.if-bit-eq0.false
 
-pub kind-of-spec : {M : Type 1} → statement M
-kind-of-spec = tie.close (tie.spec returns returns-2)
+pub kind_of_spec : {M : Type 1} → statement M
+kind_of_spec = tie.close (tie.spec returns-then-bit-eq0 returns-else-bit-eq0)

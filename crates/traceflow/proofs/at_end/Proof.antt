@@ -8,18 +8,18 @@ use borrow.Author.Rules.{rules}
 use Rattle.traceflow.proofs.at_end.Statement.{statement}
 use Rattle.traceflow.proofs.at_end.Tie as tie
 
-sub-t5 : tie.Need-overflow-sub-t5
-sub-t5 c = search rules
+overflow_sub-result : tie.Need-overflow_sub-result
+overflow_sub-result c = search rules
 
-returns : tie.Need-returns
-returns c =
+returns-then-bytes-eq0 : tie.Need-returns-then-bytes-eq0
+returns-then-bytes-eq0 c =
     let a = c.before.args in
-    sym (ap (λ (t : Bool). cond t (0 ∷ 0 ∷ []) ((a.all - a.bytes) ∷ a.bytes ∷ [])) (eq-eqb a.bytes 0 c.if1.true))
+    sym (ap (λ (t : Bool). cond t (0 ∷ 0 ∷ []) ((a.all - a.bytes) ∷ a.bytes ∷ [])) (eq-eqb a.bytes 0 c.if-bytes-eq0.true))
 
-returns-2 : tie.Need-returns-2
-returns-2 c =
+returns-else-bytes-eq0 : tie.Need-returns-else-bytes-eq0
+returns-else-bytes-eq0 c =
     let a = c.before.args in
-    sym (ap (λ (t : Bool). cond t (0 ∷ 0 ∷ []) ((a.all - a.bytes) ∷ a.bytes ∷ [])) (ne_eqb a.bytes 0 c.if1.false))
+    sym (ap (λ (t : Bool). cond t (0 ∷ 0 ∷ []) ((a.all - a.bytes) ∷ a.bytes ∷ [])) (ne_eqb a.bytes 0 c.if-bytes-eq0.false))
 
-pub at-end-spec : {M : Type 1} → statement M
-at-end-spec = tie.close (tie.spec sub-t5 returns returns-2)
+pub at_end_spec : {M : Type 1} → statement M
+at_end_spec = tie.close (tie.spec overflow_sub-result returns-then-bytes-eq0 returns-else-bytes-eq0)

@@ -9,18 +9,18 @@ use borrow.Author.Rules.{rules}
 use Rattle.traceflow.proofs.traceflow_pattern_part.Statement.{statement}
 use Rattle.traceflow.proofs.traceflow_pattern_part.Tie as tie
 
-pattern-part-requires : tie.Need-pattern-part-requires
-pattern-part-requires c κs = search rules
+pattern_part-part-requires : tie.Need-pattern_part-part-requires
+pattern_part-part-requires c κs = search rules
 
-at-end-requires : tie.Need-at-end-requires
-at-end-requires c κs =
+at_end-requires : tie.Need-at_end-requires
+at_end-requires c κs =
     let b = c.before.before.args.plan.now in
-    subst (λ (l : List ℕ). length l ≤ length b) (sym c.pattern-part.ensures.bytes) (part_within b)
+    subst (λ (l : List ℕ). length l ≤ length b) (sym c.pattern_part-part.ensures.bytes) (part_within b)
 
 returns : tie.Need-returns
 returns c =
     let b = c.before.before.before.args.plan.now in
-    c.at-end.ensures ∙ ap (λ (l : List ℕ). at_end (length b) (length l)) c.before.pattern-part.ensures.bytes ∙ place_at_end b
+    c.at_end.ensures ∙ ap (λ (l : List ℕ). at_end (length b) (length l)) c.before.pattern_part-part.ensures.bytes ∙ place_at_end b
 
-pub traceflow-pattern-part-spec : {M : Type 1} → statement M
-traceflow-pattern-part-spec = tie.close (tie.spec pattern-part-requires at-end-requires returns)
+pub traceflow_pattern_part_spec : {M : Type 1} → statement M
+traceflow_pattern_part_spec = tie.close (tie.spec pattern_part-part-requires at_end-requires returns)

@@ -21,76 +21,76 @@ use Rattle.typed.proofs.judge_text.Statement.{statement}
 use Rattle.typed.proofs.judge_text.Tie as tie
 
 -- the bytes of the plan, and what its reader said of them, where it has no refusal
-abbrev bytes : tie.After-enum-told → List ℕ
+abbrev bytes : tie.In-Accepted → List ℕ
 bytes c = c.before.before.before.before.before.before.before.before.args.plan.now
 
-abbrev found : tie.After-enum-told → PatternRead
-found c = c.before.before.before.read-pattern.result
+abbrev found : tie.In-Accepted → PatternRead
+found c = c.before.before.before.read_pattern-read.result
 
-passed : (c : tie.After-enum-told) → first readable (bytes c) ≡ none
-passed c = passed_reader (bytes c) (found c) c.before.before.before.read-pattern.ensures.0 c.enum_told.given.1
+passed : (c : tie.In-Accepted) → first readable (bytes c) ≡ none
+passed c = passed_reader (bytes c) (found c) c.before.before.before.read_pattern-read.ensures.0 c.enum_told-1.given.1
 
-kept : (c : tie.After-enum-told) → Reads (plan_of (bytes c)) (found c).reading.plan c.before.before.before.read-pattern.new.1.0 (found c).reading.owner
+kept : (c : tie.In-Accepted) → Reads (plan_of (bytes c)) (found c).reading-1.plan c.before.before.before.read_pattern-read.new.1.0 (found c).reading-1.owner
 kept c =
-    let read = c.before.before.before.read-pattern in
-    plan_read (bytes c) (found c) read.ensures.0 c.enum_told.given.1 _ _ read.ensures.1
+    let read = c.before.before.before.read_pattern-read in
+    plan_read (bytes c) (found c) read.ensures.0 c.enum_told-1.given.1 _ _ read.ensures.1
 
-items_postfix : (c : tie.After-enum-told) → Postfix (found c).items
+items_postfix : (c : tie.In-Accepted) → Postfix (found c).items-1
 items_postfix c =
-    subst (λ (r : PatternRead). Postfix r.items)
-    (sym (all_read (bytes c) (found c) c.before.before.before.read-pattern.ensures.0 c.enum_told.given.1))
+    subst (λ (r : PatternRead). Postfix r.items-1)
+    (sym (all_read (bytes c) (found c) c.before.before.before.read_pattern-read.ensures.0 c.enum_told-1.given.1))
     (plan_postfix (bytes c) (passed c))
 
-alphabet : (c : tie.After-enum-told) → (found c).reading.plan.alphabet ≡ (plan_of (bytes c)).alphabet
+alphabet : (c : tie.In-Accepted) → (found c).reading-1.plan.alphabet ≡ (plan_of (bytes c)).alphabet
 alphabet c =
-    ap (λ (r : PatternRead). r.reading.plan.alphabet)
-    (all_read (bytes c) (found c) c.before.before.before.read-pattern.ensures.0 c.enum_told.given.1)
+    ap (λ (r : PatternRead). r.reading-1.plan.alphabet)
+    (all_read (bytes c) (found c) c.before.before.before.read_pattern-read.ensures.0 c.enum_told-1.given.1)
 
 -- the bytes of the text, and what its reader said of them
-abbrev plan_bytes : tie.After-read-text → List ℕ
+abbrev plan_bytes : tie.After-read_text-typed → List ℕ
 plan_bytes c = bytes c.before
 
-abbrev text_bytes : tie.After-read-text → List ℕ
+abbrev text_bytes : tie.After-read_text-typed → List ℕ
 text_bytes c = c.before.before.before.before.before.before.before.before.before.args.text.now
 
-told : (c : tie.After-read-text) → Typed (text_bytes c) (plan_of (plan_bytes c)).alphabet c.read-text.result
-told c = subst (λ (a : ℕ). Typed (text_bytes c) a c.read-text.result) (alphabet c.before) c.read-text.ensures
+told : (c : tie.After-read_text-typed) → Typed (text_bytes c) (plan_of (plan_bytes c)).alphabet c.read_text-typed.result
+told c = subst (λ (a : ℕ). Typed (text_bytes c) a c.read_text-typed.result) (alphabet c.before) c.read_text-typed.ensures
 
-read-pattern-requires : tie.Need-read-pattern-requires
-read-pattern-requires c κs = search rules
+read_pattern-read-requires : tie.Need-read_pattern-read-requires
+read_pattern-read-requires c κs = search rules
 
-enum-known-found : tie.Need-enum-known-found
-enum-known-found c = search rules
+enum_known-found : tie.Need-enum_known-found
+enum_known-found c = search rules
 
-enum_told : tie.Need-enum-told
-enum_told c = search rules
+enum_told-1 : tie.Need-enum_told-1
+enum_told-1 c = search rules
 
-read-text-requires : tie.Need-read-text-requires
-read-text-requires c κs = search rules
+read_text-typed-requires : tie.Need-read_text-typed-requires
+read_text-typed-requires c κs = search rules
 
-enum-known-typed-found : tie.Need-enum-known-typed-found
-enum-known-typed-found c = search rules
+enum_known-typed_found : tie.Need-enum_known-typed_found
+enum_known-typed_found c = search rules
 
-enum-told-2 : tie.Need-enum-told-2
-enum-told-2 c = search rules
+enum_told-in-Accepted-typed_found : tie.Need-enum_told-in-Accepted-typed_found
+enum_told-in-Accepted-typed_found c = search rules
 
 -- both tables of items are postfix: which of them is judged is left to the promise
-settle-plan-requires : tie.Need-settle-plan-requires
-settle-plan-requires c κs =
+settle_plan-requires : tie.Need-settle_plan-requires
+settle_plan-requires c κs =
     let told2 = c.before.before.before.before.before.before.before.before.before in
     let t = told2.before.before in
     let e = t.before in
-    let typed-items = text_postfix (text_bytes t) _ t.read-text.result (told t) told2.enum-told2.given.1 in
+    let typed-items = text_postfix (text_bytes t) _ t.read_text-typed.result (told t) told2.enum_told-in-Accepted-typed_found-1.given.1 in
     let own_items = items_postfix e in
     ((plan_of (bytes e), kept e), search (typed-items, own_items))
 
-returns : tie.Need-returns
-returns c =
+returns-in-Refused : tie.Need-returns-in-Refused
+returns-in-Refused c =
     let args = c.before.before.before.before.before.before.before.before.before.args in
     let b = args.plan.now in
     let w = args.text.now in
-    let refusal = c.before.found.given in
-    let early = refused_by_reader b _ c.before.before.before.before.read-pattern.ensures.0 refusal.0.0 refusal.1 in
+    let refusal = c.before.found-1.given in
+    let early = refused_by_reader b _ c.before.before.before.before.read_pattern-read.ensures.0 refusal.0.0 refusal.1 in
     let (o, d) = every_text w in
     record {
       tree = o;
@@ -98,52 +98,41 @@ returns c =
       judged = turned_down _ (plan_of b) (expression_by (typed w o) b) _ _ refusal.0.0 (refused_early (typed w o) _ b refusal.0.0 early) refl;
     }
 
-returns-2 : tie.Need-returns-2
-returns-2 c =
+returns-in-Refused-typed_found : tie.Need-returns-in-Refused-typed_found
+returns-in-Refused-typed_found c =
     let t = c.before.before.before in
     let b = plan_bytes t in
     let w = text_bytes t in
     let q = typed w (told t).tree in
-    let refusal = c.before.typed-found.given in
-    let late = refused_by_text w _ t.read-text.result (told t) refusal.0.0 refusal.1 in
+    let refusal = c.before.typed_found-1.given in
+    let late = refused_by_text w _ t.read_text-typed.result (told t) refusal.0.0 refusal.1 in
     record {
       tree = (told t).tree;
-      reading = (told t).reading;
+      reading = (told t).reading-1;
       judged = turned_down _ (plan_of b) (expression_by q b) _ _ refusal.0.0 (refused_text q _ b (passed t.before) refusal.0.0 late) refl;
     }
 
-same_length : tie.Need-same-length
-same_length c = search rules
+shape_of-row : tie.Need-shape_of-row
+shape_of-row c = search rules
 
-returns-3 : tie.Need-returns-3
-returns-3 c =
+returns-in-Accepted-typed_found : tie.Need-returns-in-Accepted-typed_found
+returns-in-Accepted-typed_found c =
     let settled = c.before.before in
     let told2 = settled.before.before.before.before.before.before.before.before.before.before in
     let t = told2.before.before in
     let e = t.before in
     let b = plan_bytes t in
     let w = text_bytes t in
-    let fine = told2.enum-told2.given.1 in
-    let free = passed_text w _ t.read-text.result (told t) fine in
-    let pattern = text_pattern w _ t.read-text.result (told t) fine in
+    let fine = told2.enum_told-in-Accepted-typed_found-1.given.1 in
+    let free = passed_text w _ t.read_text-typed.result (told t) fine in
+    let pattern = text_pattern w _ t.read_text-typed.result (told t) fine in
     record {
       tree = (told t).tree;
-      reading = (told t).reading;
-      judged = judged_late (typed w (told t).tree) b _ (passed e) free _ pattern _ _ (settled.settle-plan.ensures (plan_of b) (kept e));
+      reading = (told t).reading-1;
+      judged = judged_late (typed w (told t).tree) b _ (passed e) free _ pattern _ _ (settled.settle_plan.ensures (plan_of b) (kept e));
     }
 
-pub judge-text-spec : {M : Type 1} → statement M
-judge-text-spec =
+pub judge_text_spec : {M : Type 1} → statement M
+judge_text_spec =
     tie.close
-    (tie.spec
-    read-pattern-requires
-    enum-known-found
-    enum_told
-    read-text-requires
-    enum-known-typed-found
-    enum-told-2
-    settle-plan-requires
-    returns
-    returns-2
-    same_length
-    returns-3)
+    (tie.spec read_pattern-read-requires enum_known-found enum_told-1 read_text-typed-requires enum_known-typed_found enum_told-in-Accepted-typed_found settle_plan-requires returns-in-Refused returns-in-Refused-typed_found shape_of-row returns-in-Accepted-typed_found)

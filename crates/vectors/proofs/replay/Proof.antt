@@ -5,27 +5,22 @@ use borrow.Author.Rules.{rules}
 use Rattle.vectors.proofs.replay.Statement.{statement}
 use Rattle.vectors.proofs.replay.Tie as tie
 
-array-borrow-prefix-places-lent : tie.Need-array-borrow-prefix-places-lent
-array-borrow-prefix-places-lent c = search rules
+slice_bounds-places_lent-end : tie.Need-slice_bounds-places_lent-end
+slice_bounds-places_lent-end c = search rules
 
-slice-aggregate-row : tie.Need-slice-aggregate-row
-slice-aggregate-row c = simp length-take (omega arith)
+slice_bounds-row-end : tie.Need-slice_bounds-row-end
+slice_bounds-row-end c = simp length-take (omega arith)
 
-judge-requires : tie.Need-judge-requires
-judge-requires c κs = search rules
+judge-answer-requires : tie.Need-judge-answer-requires
+judge-answer-requires c κs = search rules
 
-print-case-requires : tie.Need-print-case-requires
-print-case-requires c κs = search rules
+print_case-requires : tie.Need-print_case-requires
+print_case-requires c κs = search rules
 
 returns : tie.Need-returns
 returns c = search rules
 
-pub replay-spec : {M : Type 1} → statement M
-replay-spec =
+pub replay_spec : {M : Type 1} → statement M
+replay_spec =
     tie.close
-    (tie.spec
-    array-borrow-prefix-places-lent
-    slice-aggregate-row
-    judge-requires
-    print-case-requires
-    returns)
+    (tie.spec slice_bounds-places_lent-end slice_bounds-row-end judge-answer-requires print_case-requires returns)
