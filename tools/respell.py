@@ -16,7 +16,8 @@ import sys
 
 WORD = r"[^\s(){}.;,@\"«»\[\]\\:]+"
 TOKEN = re.compile(r"--[^\n]*|//[^\n]*|\"(?:[^\"\\\n]|\\.)*\"|" + WORD)
-HEAD = re.compile(r"^(?P<in> *)(?:(?:unfoldable|abbrev|private|pub|mutual) )*(?P<what>(?:data|record) )?(?P<name>" + WORD + r")(?: *\([^)]*\)| *\{[^}]*\})* ?: ")
+HEAD = re.compile(r"^(?P<in> *)(?:(?:unfoldable|abbrev|private|pub|mutual) )*(?P<what>(?:data|record) )?(?P<name>" + WORD + r")(?: *\([^)]*\)| *\{[^}]*\})* ?:(?: |$)")
+RECORD = re.compile(r"^(?P<in> *)(?:pub )?(?:record|data) ")
 
 # Lemmas that port.py spelled as the functions that they speak of are spelled here.
 LEMMAS = {"own_line": "own_line_lem", "short_row": "short_row_lem"}
@@ -51,6 +52,8 @@ def declared(text, answers):
             inside = None
         m = HEAD.match(line)
         if not m:
+            if RECORD.match(line):
+                inside = (depth, line.split("pub ")[-1].split()[0] + " ")
             continue
         name = m.group("name")
         if not re.match(r"[A-Za-z]", name):

@@ -50,10 +50,8 @@ said s = verdict (verified s.args.kind (values s).ends s.args.accepting) (values
 
 found : (c : tie.After-verdict_of-answer) → c.verdict_of-answer.result ≡ said c.before.before.before.before.before
 found c =
-    let s = c.before.before.before.before.before in
-    let ended = c.before.before.before in
-    let suits = c.before.is_verified-verified.ensures ∙ ap (λ (n : ℕ). verified s.args.kind n s.args.accepting) ended.final_set-ends.ensures in
-    let counts : ◌≡◌ {A = Counts} (record { states = s.args.states; meetings = s.args.meetings; ordering = s.args.ordering; pairs = s.args.pairs; fill = c.before.before.fill.result; ends = ended.final_set-ends.result }) (values s) = λ i. record { states = s.args.states; meetings = s.args.meetings; ordering = s.args.ordering; pairs = s.args.pairs; fill = c.before.before.fill.ensures i; ends = ended.final_set-ends.ensures i } in
+    let suits = c.is_verified-verified.ensures ∙ ap (λ (n : ℕ). verified c.args.kind n c.args.accepting) c.final_set-ends.ensures in
+    let counts : ◌≡◌ {A = Counts} (record { states = c.args.states; meetings = c.args.meetings; ordering = c.args.ordering; pairs = c.args.pairs; fill = c.fill.result; ends = c.final_set-ends.result }) (values c.before.before.before.before.before) = λ i. record { states = c.args.states; meetings = c.args.meetings; ordering = c.args.ordering; pairs = c.args.pairs; fill = c.fill.ensures i; ends = c.final_set-ends.ensures i } in
     c.verdict_of-answer.ensures ∙ (λ i. verdict (suits i) (counts i))
 
 -- whether the row has places enough
@@ -61,26 +59,24 @@ module _ (c : tie.After-hand_over) where
   abbrev start : tie.Start
   start = c.before.before.before.before.before.before.before
 
-  row_is : c.hand_over.new.0 ≡ handed (leb start.args.nodes (length start.args.row.now)) start.args.nodes start.args.masks.now start.args.row.now
-  row_is = c.hand_over.ensures.1 ∙ ap (λ (b : Bool). handed b start.args.nodes start.args.masks.now start.args.row.now) c.hand_over.ensures.0
+  row_is : c.hand-over.new.0 ≡ handed (leb start.args.nodes (length start.args.row.now)) start.args.nodes start.args.masks.now start.args.row.now
+  row_is = c.hand-over.ensures.1 ∙ ap (λ (b : Bool). handed b start.args.nodes start.args.masks.now start.args.row.now) c.hand-over.ensures.0
 
 shape_of-row-then-hand_over : tie.Need-shape_of-row-then-hand_over
 shape_of-row-then-hand_over c = search rules
 
 returns-then-hand_over : tie.Need-returns-then-hand_over
 returns-then-hand_over c =
-    let over = c.before.before.before in
-    let s = start over in
-    (found over.before.before ∙ ap (λ (b : Bool). unless_short b (said s)) (sym c.if-hand_over.true ∙ over.hand_over.ensures.0), row_is over)
+    let s = start c in
+    (found c.before.before.before.before.before ∙ ap (λ (b : Bool). unless_short b (said s)) (sym c.if-hand_over.true ∙ c.hand_over.ensures.0), row_is c)
 
 shape_of-row-else-hand_over : tie.Need-shape_of-row-else-hand_over
 shape_of-row-else-hand_over c = search rules
 
 returns-else-hand_over : tie.Need-returns-else-hand_over
 returns-else-hand_over c =
-    let over = c.before.before.before in
-    let s = start over in
-    (ap (λ (b : Bool). unless_short b (said s)) (sym c.if-hand_over.false ∙ over.hand_over.ensures.0), row_is over)
+    let s = start c in
+    (ap (λ (b : Bool). unless_short b (said s)) (sym c.if-hand_over.false ∙ c.hand_over.ensures.0), row_is c)
 
 pub answer_on_spec : {M : Type 1} → statement M
 answer_on_spec =

@@ -40,15 +40,15 @@ loop-i-smaller c = omega arith
 
 loop-i-preserved : tie.Need-loop-i-preserved invariant-loop-i decreases-loop-i
 loop-i-preserved c =
-    let loop = c.before.before.before.loop-i in
-    let jobs = c.before.before.before.before.args.t1 in
+    let loop = c.loop-i in
+    let jobs = c.args.t1 in
     (omega arith, any_turn (λ (k : ℕ). ends) (job_in jobs) loop.i loop.ending _ loop.invariant.1 (ap not c.is_standing-standing.ensures))
 
 returns : tie.Need-returns invariant-loop-i decreases-loop-i
 returns c =
-    let jobs = c.before.before.args.t1 in
-    let e : c.before.loop-i.i ≡ c.before.before.args.t1.count = omega arith in
-    let passed = c.before.loop-i.invariant.1 ∙ ap (λ (n : ℕ). any ends (row n (job_in jobs))) e in
+    let jobs = c.args.t1 in
+    let e : c.loop-i.i ≡ c.args.t1.count = omega arith in
+    let passed = c.loop-i.invariant.1 ∙ ap (λ (n : ℕ). any ends (row n (job_in jobs))) e in
     λ k. ltb 0 (sym (row_length (job_in jobs) jobs.count) k) && not (passed k)
 
 pub all_stand_spec : {M : Type 1} → statement M

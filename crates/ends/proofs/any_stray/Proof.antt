@@ -33,13 +33,13 @@ byte-exit-requires : tie.Need-byte-exit-requires invariant-loop-i decreases-loop
 byte-exit-requires c κs = tt
 
 bounds-owner-entry : tie.Need-bounds-owner-entry invariant-loop-i decreases-loop-i
-bounds-owner-entry c = c.before.before.byte-entry.ensures.1
+bounds-owner-entry c = c.byte-entry.ensures.1
 
 byte-entry_job-requires : tie.Need-byte-entry_job-requires invariant-loop-i decreases-loop-i
 byte-entry_job-requires c κs = tt
 
 bounds-owner-exit : tie.Need-bounds-owner-exit invariant-loop-i decreases-loop-i
-bounds-owner-exit c = c.before.before.byte-exit.ensures.1
+bounds-owner-exit c = c.byte-exit.ensures.1
 
 byte-exit_job-requires : tie.Need-byte-exit_job-requires invariant-loop-i decreases-loop-i
 byte-exit_job-requires c κs = tt
@@ -58,23 +58,18 @@ loop-i-smaller c = omega arith
 
 loop-i-preserved : tie.Need-loop-i-preserved invariant-loop-i decreases-loop-i
 loop-i-preserved c =
-    let four = c.before.before in
-    let three = four.before.before in
-    let two = three.before.before in
-    let one = two.before.before in
-    let at = one.before.before.before in
-    let args = at.before.args in
-    let loop = at.loop-i in (
+    let args = c.args in
+    let loop = c.loop-i in (
       omega arith,
       any_turn (stray args.nodes (place args.owner.now)) (job_in args.t3) loop.i loop.found _ loop.invariant.1
-          (stray_read args.owner.now args.nodes args.t3 loop.i _ _ _ _ _ one.byte-entry.ensures.0 two.byte-exit.ensures.0 three.byte-entry_job.ensures.0 four.byte-exit_job.ensures.0 c.is_standing-standing.ensures),
+          (stray_read args.owner.now args.nodes args.t3 loop.i _ _ _ _ _ c.byte-entry.ensures.0 c.byte-exit.ensures.0 c.byte-entry_job.ensures.0 c.byte-exit_job.ensures.0 c.is_standing-standing.ensures),
     )
 
 returns : tie.Need-returns invariant-loop-i decreases-loop-i
 returns c =
-    let args = c.before.before.args in
-    let e : c.before.loop-i.i ≡ c.before.before.args.t3.count = omega arith in
-    c.before.loop-i.invariant.1 ∙ ap (λ (n : ℕ). any_numbered (stray args.nodes (place args.owner.now)) (row n (job_in c.before.before.args.t3))) e
+    let args = c.args in
+    let e : c.loop-i.i ≡ c.args.t3.count = omega arith in
+    c.loop-i.invariant.1 ∙ ap (λ (n : ℕ). any_numbered (stray args.nodes (place args.owner.now)) (row n (job_in c.args.t3))) e
 
 pub any_stray_spec : {M : Type 1} → statement M
 any_stray_spec =

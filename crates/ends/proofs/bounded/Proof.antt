@@ -5,21 +5,20 @@ use Rattle.ends.proofs.bounded.Statement.{statement}
 use Rattle.ends.proofs.bounded.Tie as tie
 
 find_faults-s-requires : tie.Need-find_faults-s-requires
-find_faults-s-requires c κs = let l = c.before.before.requires.1 in (omega (arith, few_steps l), owners_few l)
+find_faults-s-requires c κs = let l = c.requires.1 in (omega (arith, few_steps l), owners_few l)
 
 find_faults-c-requires : tie.Need-find_faults-c-requires
-find_faults-c-requires c κs = let l = c.before.before.before.requires.1 in (omega (arith, few_calls l), owners_few l)
+find_faults-c-requires c κs = let l = c.requires.1 in (omega (arith, few_calls l), owners_few l)
 
 find_faults-a-requires : tie.Need-find_faults-a-requires
-find_faults-a-requires c κs = let l = c.before.before.before.before.requires.1 in (omega (arith, few_accepts l), owners_few l)
+find_faults-a-requires c κs = let l = c.requires.1 in (omega (arith, few_accepts l), owners_few l)
 
 first_of-requires : tie.Need-first_of-requires
-first_of-requires c κs = few_jobs c.before.before.before.before.before.requires.1
+first_of-requires c κs = few_jobs c.requires.1
 
 returns : tie.Need-returns
 returns c p l =
-    let a = c.before in
-    c.first_of.ensures p (lent_tested l _ _ _ a.before.before.find_faults-s.ensures a.before.find_faults-c.ensures a.find_faults-a.ensures)
+    c.first_of.ensures p (lent_tested l _ _ _ c.find_faults-s.ensures c.find_faults-c.ensures c.find_faults-a.ensures)
 
 pub bounded_spec : {M : Type 1} → statement M
 bounded_spec =

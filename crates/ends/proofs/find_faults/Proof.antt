@@ -63,25 +63,25 @@ label_of-label-requires : tie.Need-label_of-label-requires invariant-loop-i decr
 label_of-label-requires c κs = tt
 
 bounds-owner-from : tie.Need-bounds-owner-from invariant-loop-i decreases-loop-i
-bounds-owner-from c = c.before.before.from_of-from.ensures.1
+bounds-owner-from c = c.from_of-from.ensures.1
 
 byte-job-requires : tie.Need-byte-job-requires invariant-loop-i decreases-loop-i
 byte-job-requires c κs = tt
 
 bounds-owner-to : tie.Need-bounds-owner-to invariant-loop-i decreases-loop-i
-bounds-owner-to c = c.before.before.before.to_of-to.ensures.1
+bounds-owner-to c = c.to_of-to.ensures.1
 
 byte-other-requires : tie.Need-byte-other-requires invariant-loop-i decreases-loop-i
 byte-other-requires c κs = tt
 
 bounds-g-job : tie.Need-bounds-g-job invariant-loop-i decreases-loop-i
-bounds-g-job c = rw c.before.before.byte-job.ensures.0 (c.before.before.before.before.before.before.before.before.before.before.requires.1 _)
+bounds-g-job c = rw c.byte-job.ensures.0 (c.requires.1 _)
 
 byte-exit-requires : tie.Need-byte-exit-requires invariant-loop-i decreases-loop-i
 byte-exit-requires c κs = tt
 
 bounds-g-job-in-loop-i : tie.Need-bounds-g-job-in-loop-i invariant-loop-i decreases-loop-i
-bounds-g-job-in-loop-i c = rw c.before.before.before.before.byte-job.ensures.0 (c.before.before.before.before.before.before.before.before.before.before.before.before.requires.1 _)
+bounds-g-job-in-loop-i c = rw c.byte-job.ensures.0 (c.requires.1 _)
 
 is_standing-standing-requires : tie.Need-is_standing-standing-requires invariant-loop-i decreases-loop-i
 is_standing-standing-requires c κs = tt
@@ -94,35 +94,29 @@ loop-i-smaller c = omega arith
 
 loop-i-preserved : tie.Need-loop-i-preserved invariant-loop-i decreases-loop-i
 loop-i-preserved c =
-    let three = c.before.before in
-    let one = three.before.before.before.before in
-    let in-loop = one.before.before.before.before.before.before in
-    let at = in-loop.before in
-    let start = at.before in
-    let g = start.args.t1 in
-    let owner = start.args.owner.now in
-    let arc = arc_of start in
-    let loop = at.loop-i in
-    let from = one.before.before.before.before.from_of-from.ensures.0 in
-    let job = one.byte-job.ensures.0 in (
-      omega (arith, in-loop.loop-i-test.true),
+    let g = c.args.t1 in
+    let owner = c.args.owner.now in
+    let arc = arc_of c.before.before.before.before.before.before.before.before.before.before.before.before.before.before.before.before in
+    let loop = c.loop-i in
+    let from = c.from_of-from.ensures.0 in
+    let job = c.byte-job.ensures.0 in (
+      omega (arith, c.loop-i-test.true),
       any_turn (λ (k : ℕ). apart-test g.nodes (place owner)) arc loop.i loop.apart _ loop.invariant.1
-          (apart_read owner g (arc loop.i) _ from _ _ _ one.before.before.before.to_of-to.ensures.0 job three.before.before.byte-other.ensures.0),
+          (apart_read owner g (arc loop.i) _ from _ _ _ c.to_of-to.ensures.0 job c.byte-other.ensures.0),
       any_turn (λ (k : ℕ). leaving-test (place owner) (place g.exit) (end_by g.standing)) arc loop.i loop.leaving _ loop.invariant.2
-          (leaving_read owner g (arc loop.i) _ from _ _ _ job three.byte-exit.ensures.0 c.is_standing-standing.ensures),
-      any_turn (λ (k : ℕ). unknown-test g.channels) arc loop.i loop.unknown _ loop.invariant.3 (unknown_read g (arc loop.i) _ one.before.before.label_of-label.ensures),
+          (leaving_read owner g (arc loop.i) _ from _ _ _ job c.byte-exit.ensures.0 c.is_standing-standing.ensures),
+      any_turn (λ (k : ℕ). unknown-test g.channels) arc loop.i loop.unknown _ loop.invariant.3 (unknown_read g (arc loop.i) _ c.label_of-label.ensures),
     )
 
 returns : tie.Need-returns invariant-loop-i decreases-loop-i
 returns c =
-    let start = c.before.before in
-    let g = start.args.t1 in
-    let owner = start.args.owner.now in
-    let inv = c.before.loop-i.invariant in
-    let e : c.before.loop-i.i ≡ c.before.before.args.count = omega arith in
-    let found : ◌≡◌ {A = Faults} (record { apart = c.before.loop-i.apart; leaving = c.before.loop-i.leaving; unknown = c.before.loop-i.unknown }) (faults_of g owner (row c.before.loop-i.i (arc_of start))) =
+    let g = c.args.t1 in
+    let owner = c.args.owner.now in
+    let inv = c.loop-i.invariant in
+    let e : c.loop-i.i ≡ c.args.count = omega arith in
+    let found : ◌≡◌ {A = Faults} (record { apart = c.loop-i.apart; leaving = c.loop-i.leaving; unknown = c.loop-i.unknown }) (faults_of g owner (row c.loop-i.i (arc_of c.before.before))) =
     λ k. record { apart = inv.1 k; leaving = inv.2 k; unknown = inv.3 k } in
-    found ∙ ap (λ (n : ℕ). faults_of g owner (row n (arc_of start))) e
+    found ∙ ap (λ (n : ℕ). faults_of g owner (row n (arc_of c.before.before))) e
 
 pub find_faults_spec : {M : Type 1} → statement M
 find_faults_spec =

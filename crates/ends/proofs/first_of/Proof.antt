@@ -19,10 +19,10 @@ About c p = Tested p c.args.nodes c.args.owner.now c.args.jobs c.args.s c.args.c
 -- ---- what each test that is passed tells
 
 within : (c : tie.Else-stray) (p : Plan) → About c.before.before.before.before.before.before.before.before.before.before.before p → stray_ends p ≡ false
-within c p t = told (c.before.before.before.before.before.before.before.before.before.before.any_stray-stray.ensures ∙ stray_tested t) c.if-stray.false
+within c p t = told (c.any_stray-stray.ensures ∙ stray_tested t) c.if-stray.false
 
 ending : (c : tie.Else-standing) (p : Plan) → About c.before.before.before.before.before.before.before.before.before.before.before.before p → none_ends p ≡ false
-ending c p t = told (c.before.before.before.before.before.before.before.before.before.before.all_stand-standing.ensures ∙ standing_tested t) c.if-standing.false
+ending c p t = told (c.all_stand-standing.ensures ∙ standing_tested t) c.if-standing.false
 
 joined : (c : tie.Else-apart) (p : Plan) → About c.before.before.before.before.before.before.before.before.before.before.before.before.before p → split_ends p ≡ false
 joined c p t = told (apart_tested t) c.if-apart.false
@@ -39,40 +39,27 @@ all_stand-standing-requires : tie.Need-all_stand-standing-requires
 all_stand-standing-requires c κs = search rules
 
 returns-then-stray : tie.Need-returns-then-stray
-returns-then-stray c p t = sym (ap outcome_of (ends_6 p (told (c.before.before.before.before.before.before.before.before.before.before.any_stray-stray.ensures ∙ stray_tested t) c.if-stray.true)))
+returns-then-stray c p t = sym (ap outcome_of (ends_6 p (told (c.any_stray-stray.ensures ∙ stray_tested t) c.if-stray.true)))
 
 returns-then-standing : tie.Need-returns-then-standing
 returns-then-standing c p t =
-    sym (ap outcome_of (ends_21 p (within c.before p t) (told (c.before.before.before.before.before.before.before.before.before.before.all_stand-standing.ensures ∙ standing_tested t) c.if-standing.true)))
+    sym (ap outcome_of (ends_21 p (within c.before p t) (told (c.all_stand-standing.ensures ∙ standing_tested t) c.if-standing.true)))
 
 returns-then-apart : tie.Need-returns-then-apart
 returns-then-apart c p t =
-    let two = c.before in
-    let one = two.before in
-    sym (ap outcome_of (ends_7 p (within one p t) (ending two p t) (told (apart_tested t) c.if-apart.true)))
+    sym (ap outcome_of (ends_7 p (within c.before.before p t) (ending c.before p t) (told (apart_tested t) c.if-apart.true)))
 
 returns-then-leaving : tie.Need-returns-then-leaving
 returns-then-leaving c p t =
-    let three = c.before in
-    let two = three.before in
-    let one = two.before in
-    sym (ap outcome_of (ends_8 p (within one p t) (ending two p t) (joined three p t) (told (leaving_tested t) c.if-leaving.true)))
+    sym (ap outcome_of (ends_8 p (within c.before.before.before p t) (ending c.before.before p t) (joined c.before p t) (told (leaving_tested t) c.if-leaving.true)))
 
 returns-then-unknown : tie.Need-returns-then-unknown
 returns-then-unknown c p t =
-    let four = c.before in
-    let three = four.before in
-    let two = three.before in
-    let one = two.before in
-    sym (ap outcome_of (ends_9 p (within one p t) (ending two p t) (joined three p t) (staying four p t) (told (unknown_tested t) c.if-unknown.true)))
+    sym (ap outcome_of (ends_9 p (within c.before.before.before.before p t) (ending c.before.before.before p t) (joined c.before.before p t) (staying c.before p t) (told (unknown_tested t) c.if-unknown.true)))
 
 returns : tie.Need-returns
 returns c p t =
-    let four = c.before in
-    let three = four.before in
-    let two = three.before in
-    let one = two.before in
-    sym (ap outcome_of (ends_none p (within one p t) (ending two p t) (joined three p t) (staying four p t) (told (unknown_tested t) c.if-unknown.false)))
+    sym (ap outcome_of (ends_none p (within c.before.before.before.before p t) (ending c.before.before.before p t) (joined c.before.before p t) (staying c.before p t) (told (unknown_tested t) c.if-unknown.false)))
 
 pub first_of_spec : {M : Type 1} → statement M
 first_of_spec =

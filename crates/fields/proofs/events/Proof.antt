@@ -22,13 +22,13 @@ field-rest-requires : tie.Need-field-rest-requires invariant-loop-i decreases-lo
 field-rest-requires c κs = omega arith
 
 loop-i-init : tie.Need-loop-i-init invariant-loop-i decreases-loop-i
-loop-i-init c = (omega arith, c.field-rest.ensures, sym (events_none c.before.before.args.plan.now (c.before.before.args.at + 31)), omega arith)
+loop-i-init c = (omega arith, c.field-rest.ensures, sym (events_none c.args.plan.now (c.args.at + 31)), omega arith)
 
 overflow_mul-set : tie.Need-overflow_mul-set invariant-loop-i decreases-loop-i
-overflow_mul-set c = omega (arith, pow_mono {i = c.before.loop-i.i} {j = 30} (omega arith))
+overflow_mul-set c = omega (arith, pow_mono {i = c.loop-i.i} {j = 30} (omega arith))
 
 overflow_add-set : tie.Need-overflow_add-set invariant-loop-i decreases-loop-i
-overflow_add-set c = omega (arith, pow_mono {i = c.before.loop-i.i} {j = 30} (omega arith))
+overflow_add-set c = omega (arith, pow_mono {i = c.loop-i.i} {j = 30} (omega arith))
 
 overflow_add-i : tie.Need-overflow_add-i invariant-loop-i decreases-loop-i
 overflow_add-i c = omega arith
@@ -38,9 +38,9 @@ loop-i-smaller c = omega arith
 
 loop-i-preserved : tie.Need-loop-i-preserved invariant-loop-i decreases-loop-i
 loop-i-preserved c =
-    let bs = c.before.before.before.before.args.plan.now in
-    let at = c.before.before.before.before.args.at in
-    let loop = c.before.loop-i in
+    let bs = c.args.plan.now in
+    let at = c.args.at in
+    let loop = c.loop-i in
     let k = 31 - (loop.i + 1) in
     let within : at + k < 8 * length bs = omega arith in
     let rest : loop.rest ≡ field_at bs at (k + 1) = loop.invariant.1 ∙ ap (field_at bs at) (omega arith) in
@@ -53,16 +53,16 @@ loop-i-preserved c =
     )
 
 overflow_mul-result : tie.Need-overflow_mul-result invariant-loop-i decreases-loop-i
-overflow_mul-result c = omega (arith, pow_mono {i = c.before.loop-i.i} {j = 31} (omega arith))
+overflow_mul-result c = omega (arith, pow_mono {i = c.loop-i.i} {j = 31} (omega arith))
 
 overflow_cast-result : tie.Need-overflow_cast-result invariant-loop-i decreases-loop-i
-overflow_cast-result c = omega (arith, pow_mono {i = c.before.loop-i.i} {j = 31} (omega arith))
+overflow_cast-result c = omega (arith, pow_mono {i = c.loop-i.i} {j = 31} (omega arith))
 
 returns : tie.Need-returns invariant-loop-i decreases-loop-i
 returns c =
-    let args = c.before.before.before.before.args in
-    let e : c.before.loop-i.i ≡ 31 = omega arith in
-    rw (events_all args.plan.now args.at, c.before.loop-i.invariant.2, e, add_zero)
+    let args = c.args in
+    let e : c.loop-i.i ≡ 31 = omega arith in
+    rw (events_all args.plan.now args.at, c.loop-i.invariant.2, e, add_zero)
 
 pub events_spec : {M : Type 1} → statement M
 events_spec =

@@ -26,10 +26,10 @@ loop-i-init : tie.Need-loop-i-init invariant-loop-i decreases-loop-i
 loop-i-init c = (omega arith, sym (field_none _ _))
 
 -- four bytes or fewer were read, since the field has 31 bits at most
-few : (c : tie.In-loop-i invariant-loop-i decreases-loop-i) → c.before.loop-i.acc < 2 ^ 32
+few : (c : tie.In-loop-i invariant-loop-i decreases-loop-i) → c.loop-i.acc < 2 ^ 32
 few c =
-    let args = c.before.before.args in
-    omega (arith, field_lt args.plan.now (8 * (args.at / 8)) (8 * c.before.loop-i.i) (omega arith), pow_mono {i = 8 * c.before.loop-i.i} {j = 32} (omega arith))
+    let args = c.args in
+    omega (arith, field_lt args.plan.now (8 * (args.at / 8)) (8 * c.loop-i.i) (omega arith), pow_mono {i = 8 * c.loop-i.i} {j = 32} (omega arith))
 
 overflow_mul-acc : tie.Need-overflow_mul-acc invariant-loop-i decreases-loop-i
 overflow_mul-acc c = omega (arith, few c)
@@ -41,10 +41,10 @@ bounds-plan-at : tie.Need-bounds-plan-at invariant-loop-i decreases-loop-i
 bounds-plan-at c = omega arith
 
 overflow_cast-acc : tie.Need-overflow_cast-acc invariant-loop-i decreases-loop-i
-overflow_cast-acc c = omega (arith, c.shared_slice_known-1.given (c.before.before.before.args.at / 8 + c.before.before.loop-i.i))
+overflow_cast-acc c = omega (arith, c.shared_slice_known-1.given (c.args.at / 8 + c.loop-i.i))
 
 overflow_add-acc-in-loop-i : tie.Need-overflow_add-acc-in-loop-i invariant-loop-i decreases-loop-i
-overflow_add-acc-in-loop-i c = omega (arith, few c.before, c.shared_slice_known-1.given (c.before.before.before.args.at / 8 + c.before.before.loop-i.i))
+overflow_add-acc-in-loop-i c = omega (arith, few c.before, c.shared_slice_known-1.given (c.args.at / 8 + c.loop-i.i))
 
 overflow_add-i : tie.Need-overflow_add-i invariant-loop-i decreases-loop-i
 overflow_add-i c = omega arith
@@ -54,8 +54,8 @@ loop-i-smaller c = omega arith
 
 loop-i-preserved : tie.Need-loop-i-preserved invariant-loop-i decreases-loop-i
 loop-i-preserved c =
-    let args = c.before.before.before.args in
-    let loop = c.before.before.loop-i in
+    let args = c.args in
+    let loop = c.loop-i in
     let at = args.at / 8 + loop.i in
     let more = bytes_more args.plan.now (args.at / 8) loop.i (omega arith) (omega (arith, c.shared_slice_known-1.given at)) in
     (omega arith, omega (arith, loop.invariant.1, more))
@@ -76,17 +76,17 @@ overflow_shl-result : tie.Need-overflow_shl-result invariant-loop-i decreases-lo
 overflow_shl-result c = omega arith
 
 nonzero_rem-result : tie.Need-nonzero_rem-result invariant-loop-i decreases-loop-i
-nonzero_rem-result c = rw (shifted c.before.before.args.width (omega arith)) (pow_pos c.before.before.args.width)
+nonzero_rem-result c = rw (shifted c.args.width (omega arith)) (pow_pos c.args.width)
 
 returns : tie.Need-returns invariant-loop-i decreases-loop-i
 returns c =
-    let args = c.before.before.args in
+    let args = c.args in
     let skip = args.at % 8 in
     let rest = 8 * ((args.at % 8 + args.width + 7) / 8) - args.at % 8 - args.width in
-    let all : c.before.loop-i.i ≡ (args.at % 8 + args.width + 7) / 8 = le_antisymm c.before.loop-i.invariant.0 c.loop-i-test.false in
-    let bits : 8 * c.before.loop-i.i ≡ skip + args.width + rest = ap (λ (n : ℕ). 8 * n) all ∙ omega arith in
+    let all : c.loop-i.i ≡ (args.at % 8 + args.width + 7) / 8 = le_antisymm c.loop-i.invariant.0 c.loop-i-test.false in
+    let bits : 8 * c.loop-i.i ≡ skip + args.width + rest = ap (λ (n : ℕ). 8 * n) all ∙ omega arith in
     let start : 8 * (args.at / 8) + skip ≡ args.at = omega arith in
-    rw (shifted args.width (omega arith), c.before.loop-i.invariant.1, bits, field_within args.plan.now (8 * (args.at / 8)) skip args.width rest (omega arith), start)
+    rw (shifted args.width (omega arith), c.loop-i.invariant.1, bits, field_within args.plan.now (8 * (args.at / 8)) skip args.width rest (omega arith), start)
 
 pub field_spec : {M : Type 1} → statement M
 field_spec =

@@ -9,7 +9,7 @@ returns-then-kind-lt2 : tie.Need-returns-then-kind-lt2
 returns-then-kind-lt2 c = (sym (arity_below _ c.if-kind-lt2.true), omega arith)
 
 returns-then-kind-lt4 : tie.Need-returns-then-kind-lt4
-returns-then-kind-lt4 c = (sym (arity_both _ c.before.if-kind-lt2.false c.if-kind-lt4.true), omega arith)
+returns-then-kind-lt4 c = (sym (arity_both _ c.if-kind-lt2.false c.if-kind-lt4.true), omega arith)
 
 returns : tie.Need-returns
 returns c = (sym (arity_star _ c.if-kind-lt4.false), omega arith)

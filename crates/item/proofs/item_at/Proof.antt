@@ -22,41 +22,41 @@ use Rattle.item.proofs.item_at.Tie as tie
 
 -- the arguments, at the place behind the first test
 abbrev bytes : tie.Else-is_cut → List ℕ
-bytes e = e.before.before.before.args.rest.now
+bytes e = e.args.rest.now
 
 abbrev alphabet : tie.Else-is_cut → ℕ
-alphabet e = e.before.before.before.args.alphabet
+alphabet e = e.args.alphabet
 
 abbrev at : tie.Else-is_cut → ℕ
-at e = e.before.before.before.args.at
+at e = e.args.at
 
 abbrev depth : tie.Else-is_cut → ℕ
-depth e = e.before.before.before.args.depth
+depth e = e.args.depth
 
 abbrev kind_read : tie.Else-kind-gt4 → tie.Else-is_cut
 kind_read c = c.before.before
 
 -- the tests, as the code found them
 whole : (e : tie.Else-is_cut) → cut (bytes e) (at e + 3) ≡ false
-whole e = told e.before.is_cut.ensures e.if-is_cut.false
+whole e = told e.is_cut.ensures e.if-is_cut.false
 
-kind : (c : tie.Else-kind-gt4) → c.before.field-kind.result ≡ kind_at (bytes (kind_read c)) (at (kind_read c))
-kind c = c.before.field-kind.ensures
+kind : (c : tie.Else-kind-gt4) → c.field-kind.result ≡ kind_at (bytes (kind_read c)) (at (kind_read c))
+kind c = c.field-kind.ensures
 
-known : (c : tie.Else-kind-gt4) → ltb 4 c.before.field-kind.result ≡ false
+known : (c : tie.Else-kind-gt4) → ltb 4 c.field-kind.result ≡ false
 known c = le-ltb _ _ c.if-kind-gt4.false
 
-one : (c : tie.Then-kind-eq1) → eqb c.before.before.field-kind.result 1 ≡ true
+one : (c : tie.Then-kind-eq1) → eqb c.field-kind.result 1 ≡ true
 one c = eq-eqb _ _ c.if-kind-eq1.true
 
-other : (c : tie.Else-kind-eq1) → eqb c.before.before.field-kind.result 1 ≡ false
+other : (c : tie.Else-kind-eq1) → eqb c.field-kind.result 1 ≡ false
 other c = ne_eqb _ _ c.if-kind-eq1.false
 
 held : (c : tie.Else-is_cut-2) → cut (bytes (kind_read c.before.before.before)) (at (kind_read c.before.before.before) + 34) ≡ false
-held c = told c.before.is_cut-then-kind-eq1.ensures c.if-is_cut-2.false
+held c = told c.is_cut-then-kind-eq1.ensures c.if-is_cut-2.false
 
 strange_told : (c : tie.After-is_strange) → c.is_strange.result ≡ strange (alphabet (kind_read c.before.before.before.before.before)) (set_at (bytes (kind_read c.before.before.before.before.before)) (at (kind_read c.before.before.before.before.before)))
-strange_told c = c.is_strange.ensures ∙ ap (strange (alphabet (kind_read c.before.before.before.before.before))) c.before.events-set.ensures
+strange_told c = c.is_strange.ensures ∙ ap (strange (alphabet (kind_read c.before.before.before.before.before))) c.events-set.ensures
 
 -- a refusal is answered where it is the item's
 refused : (b : List ℕ) (alphabet at depth : ℕ) {n : ℕ} {r : Found} → r ≡ found_as (some n) empty → first (faults b alphabet) (record { at = at; depth = depth }) ≡ some n
@@ -74,9 +74,9 @@ fault-requires c κs = search rules
 
 returns-then-is_cut : tie.Need-returns-then-is_cut
 returns-then-is_cut c =
-    let a = c.before.before.before.before.args in
+    let a = c.args in
     refused a.rest.now a.alphabet a.at a.depth c.fault.ensures
-    (kind_cut a.rest.now a.alphabet a.at a.depth (told c.before.before.is_cut.ensures c.before.if-is_cut.true))
+    (kind_cut a.rest.now a.alphabet a.at a.depth (told c.is_cut.ensures c.if-is_cut.true))
 
 field-kind-requires : tie.Need-field-kind-requires
 field-kind-requires c κs = (omega arith, omega arith, ltb-false _ _ (whole c))
@@ -86,8 +86,7 @@ fault-requires-then-kind-gt4 c κs = search rules
 
 returns-then-kind-gt4 : tie.Need-returns-then-kind-gt4
 returns-then-kind-gt4 c =
-    let e = c.before.before.before in
-    refused (bytes e) (alphabet e) (at e) (depth e) c.fault-then-kind-gt4.ensures (kind_unknown (bytes e) (alphabet e) (at e) (depth e) (whole e) _ c.before.before.field-kind.ensures (lt-ltb _ _ c.before.if-kind-gt4.true))
+    refused (bytes c.before.before.before) (alphabet c.before.before.before) (at c.before.before.before) (depth c.before.before.before) c.fault-then-kind-gt4.ensures (kind_unknown (bytes c.before.before.before) (alphabet c.before.before.before) (at c.before.before.before) (depth c.before.before.before) (whole c.before.before.before) _ c.field-kind.ensures (lt-ltb _ _ c.if-kind-gt4.true))
 
 overflow_add-at-then-kind-eq1 : tie.Need-overflow_add-at-then-kind-eq1
 overflow_add-at-then-kind-eq1 c = search rules
@@ -100,10 +99,9 @@ fault-requires-then-is_cut-2 c κs = search rules
 
 returns-then-is_cut-2 : tie.Need-returns-then-is_cut-2
 returns-then-is_cut-2 c =
-    let f = c.before.before.before in
-    let e = kind_read f.before in
+    let e = kind_read c.before.before.before.before in
     refused (bytes e) (alphabet e) (at e) (depth e) c.fault-then-is_cut-2.ensures
-    (set_cut (bytes e) (alphabet e) (at e) (depth e) (whole e) _ (kind f.before) (known f.before) (one f) (told c.before.before.is_cut-then-kind-eq1.ensures c.before.if-is_cut-2.true))
+    (set_cut (bytes e) (alphabet e) (at e) (depth e) (whole e) _ (kind c.before.before.before.before) (known c.before.before.before.before) (one c.before.before.before) (told c.is_cut-then-kind-eq1.ensures c.if-is_cut-2.true))
 
 overflow_add-at-then-kind-eq1-2 : tie.Need-overflow_add-at-then-kind-eq1-2
 overflow_add-at-then-kind-eq1-2 c = search rules
@@ -122,20 +120,16 @@ fault-requires-then-is_strange c κs = search rules
 
 returns-then-is_strange : tie.Need-returns-then-is_strange
 returns-then-is_strange c =
-    let f = c.before.before.before.before in
-    let t = f.before.before in
-    let e = kind_read t.before in
+    let e = kind_read c.before.before.before.before.before.before.before in
     refused (bytes e) (alphabet e) (at e) (depth e) c.fault-then-is_strange.ensures
-    (set_strange (bytes e) (alphabet e) (at e) (depth e) (whole e) _ (kind t.before) (known t.before) (one t) (held f) (told (strange_told c.before.before) c.before.if-is_strange.true))
+    (set_strange (bytes e) (alphabet e) (at e) (depth e) (whole e) _ (kind c.before.before.before.before.before.before.before) (known c.before.before.before.before.before.before.before) (one c.before.before.before.before.before.before) (held c.before.before.before.before) (told (strange_told c.before.before) c.if-is_strange.true))
 
 returns-then-kind-eq1 : tie.Need-returns-then-kind-eq1
 returns-then-kind-eq1 c =
-    let f = c.before.before.before in
-    let t = f.before.before in
-    let e = kind_read t.before in
-    let fine = set_fine (bytes e) (alphabet e) (at e) (depth e) (whole e) _ (kind t.before) (known t.before) (one t) (held f) (told (strange_told c.before) c.if-is_strange.false) in
-    let is = set_is (bytes e) (alphabet e) (at e) (depth e) (whole e) _ (kind t.before) (known t.before) (one t) (held f) in
-    let read : ◌≡◌ {A = Found} (record { outcome = Accepted; kind = 1; set = c.before.before.events-set.result }) (found_as none (events (set_at (bytes e) (at e)))) = λ i. record { outcome = Accepted; kind = 1; set = c.before.before.events-set.ensures i } in
+    let e = kind_read c.before.before.before.before.before.before in
+    let fine = set_fine (bytes e) (alphabet e) (at e) (depth e) (whole e) _ (kind c.before.before.before.before.before.before) (known c.before.before.before.before.before.before) (one c.before.before.before.before.before) (held c.before.before.before) (told (strange_told c.before) c.if-is_strange.false) in
+    let is = set_is (bytes e) (alphabet e) (at e) (depth e) (whole e) _ (kind c.before.before.before.before.before.before) (known c.before.before.before.before.before.before) (one c.before.before.before.before.before) (held c.before.before.before) in
+    let read : ◌≡◌ {A = Found} (record { outcome = Accepted; kind = 1; set = c.events-set.result }) (found_as none (events (set_at (bytes e) (at e)))) = λ i. record { outcome = Accepted; kind = 1; set = c.events-set.ensures i } in
     read ∙ sym (ap (λ (o : Option ℕ). found_as o (item_at (bytes e) (at e))) fine ∙ ap (found_as none) is)
 
 overflow_cast-operator : tie.Need-overflow_cast-operator
@@ -149,18 +143,16 @@ fault-requires-then-depth-arity_of c κs = search rules
 
 returns-then-depth-arity_of : tie.Need-returns-then-depth-arity_of
 returns-then-depth-arity_of c =
-    let t = c.before.before.before in
-    let e = kind_read t.before in
+    let e = kind_read c.before.before.before.before in
     refused (bytes e) (alphabet e) (at e) (depth e) c.fault-then-depth-arity_of.ensures
-    (operands_short (bytes e) (alphabet e) (at e) (depth e) (whole e) _ (kind t.before) (known t.before) (other t) (rw (← c.before.before.arity_of.ensures.0) (lt-ltb _ _ c.before.if-depth-arity_of.true)))
+    (operands_short (bytes e) (alphabet e) (at e) (depth e) (whole e) _ (kind c.before.before.before.before) (known c.before.before.before.before) (other c.before.before.before) (rw (← c.arity_of.ensures.0) (lt-ltb _ _ c.if-depth-arity_of.true)))
 
 returns : tie.Need-returns
 returns c =
-    let t = c.before.before in
-    let e = kind_read t.before in
-    let fine = operands_fine (bytes e) (alphabet e) (at e) (depth e) (whole e) _ (kind t.before) (known t.before) (other t) (rw (← c.before.arity_of.ensures.0) (le-ltb _ _ c.if-depth-arity_of.false)) in
-    let is = kind_is (bytes e) (alphabet e) (at e) (depth e) (whole e) _ (kind t.before) (known t.before) (other t) in
-    let read : ◌≡◌ {A = Found} (found_as none (item_at (bytes e) (at e))) (record { outcome = Accepted; kind = c.before.before.before.before.field-kind.result; set = 0 }) = λ i. record { outcome = Accepted; kind = is.0 i; set = is.1 i } in
+    let e = kind_read c.before.before.before in
+    let fine = operands_fine (bytes e) (alphabet e) (at e) (depth e) (whole e) _ (kind c.before.before.before) (known c.before.before.before) (other c.before.before) (rw (← c.arity_of.ensures.0) (le-ltb _ _ c.if-depth-arity_of.false)) in
+    let is = kind_is (bytes e) (alphabet e) (at e) (depth e) (whole e) _ (kind c.before.before.before) (known c.before.before.before) (other c.before.before) in
+    let read : ◌≡◌ {A = Found} (found_as none (item_at (bytes e) (at e))) (record { outcome = Accepted; kind = c.field-kind.result; set = 0 }) = λ i. record { outcome = Accepted; kind = is.0 i; set = is.1 i } in
     sym (ap (λ (o : Option ℕ). found_as o (item_at (bytes e) (at e))) fine ∙ read)
 
 pub item_at_spec : {M : Type 1} → statement M

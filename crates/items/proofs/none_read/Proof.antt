@@ -8,7 +8,7 @@ blank-requires : tie.Need-blank-requires
 blank-requires c κs = search rules
 
 returns : tie.Need-returns
-returns c = λ i. record { outcome = Refused c.before.args.n; items = c.blank.ensures i }
+returns c = λ i. record { outcome = Refused c.args.n; items = c.blank.ensures i }
 
 pub none_read_spec : {M : Type 1} → statement M
 none_read_spec = tie.close (tie.spec blank-requires returns)

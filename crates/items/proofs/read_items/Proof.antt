@@ -32,25 +32,25 @@ abbrev count : tie.In-Accepted → ℕ
 count c = (start c).args.count
 
 abbrev scanned : (c : tie.In-Accepted) → (s : Spot) × (read (bytes c) (alphabet c) (count c) ≡ up_to s)
-scanned c = scan_up_to (read (bytes c) (alphabet c) (count c)) (sym (ap (λ (t : Scan). t.outcome) c.before.before.scan_items-s.ensures) ∙ c.enum_told-1.given.1)
+scanned c = scan_up_to (read (bytes c) (alphabet c) (count c)) (sym (ap (λ (t : Scan). t.outcome) c.before.before.scan_items.ensures) ∙ c.enum_told.given.1)
 
 abbrev spot : tie.In-Accepted → Spot
 spot c = (scanned c).0
 
-kept : (c : tie.In-Accepted) → c.before.before.scan_items-s.result ≡ scan_of (up_to (spot c))
-kept c = c.before.before.scan_items-s.ensures ∙ ap scan_of (scanned c).1
+kept : (c : tie.In-Accepted) → c.scan_items-s.result ≡ scan_of (up_to (spot c))
+kept c = c.scan_items-s.ensures ∙ ap scan_of (scanned c).1
 
-at_is : (c : tie.In-Accepted) → c.before.before.scan_items-s.result.at ≡ (spot c).at
+at_is : (c : tie.In-Accepted) → c.scan_items-s.result.at ≡ (spot c).at
 at_is c = ap (λ (t : Scan). t.at) (kept c)
 
-near : (c : tie.In-Accepted) → c.before.before.scan_items-s.result.at ≤ 2176
+near : (c : tie.In-Accepted) → c.scan_items-s.result.at ≤ 2176
 near c =
     let h : Bounds (bytes c) (alphabet c) (count c) (up_to (spot c)) = subst (λ (x : Read). Bounds (bytes c) (alphabet c) (count c) x) (scanned c).1 (read_bounds (bytes c) (alphabet c) (count c)) in
     omega (arith, at_is c, (start c).requires)
 
 -- where the code stands behind the items; refusal 15 asks no more of a spot
 abbrev behind : tie.In-Accepted → Spot
-behind c = record { at = c.before.before.scan_items-s.result.at; items = [] }
+behind c = record { at = c.scan_items-s.result.at; items = [] }
 
 -- the tests, as the code found them
 one : (c : tie.Else-s-ne1) → not_one (spot c.before.before) ≡ false
@@ -76,9 +76,8 @@ none_read-requires-then-s-ne1 c κs = search rules
 
 returns-then-s-ne1 : tie.Need-returns-then-s-ne1
 returns-then-s-ne1 c =
-    let e = c.before.before.before in
     c.none_read-then-s-ne1.ensures
-    ∙ sym (answer_14 (bytes e) (alphabet e) (count e) (spot e) (scanned e).1 (ap (λ (n : ℕ). not (eqb n 1)) (sym (ap (λ (t : Scan). t.depth) (kept e))) ∙ ap not (ne_eqb _ _ c.before.if-s-ne1.true)))
+    ∙ sym (answer_14 (bytes c.before.before.before) (alphabet c.before.before.before) (count c.before.before.before) (spot c.before.before.before) (scanned c).1 (ap (λ (n : ℕ). not (eqb n 1)) (sym (ap (λ (t : Scan). t.depth) (kept c.before.before.before))) ∙ ap not (ne_eqb _ _ c.if-s-ne1.true)))
 
 overflow_add-bytes : tie.Need-overflow_add-bytes
 overflow_add-bytes c = omega (arith, near c.before.before)
@@ -88,8 +87,7 @@ none_read-requires-then-rest-bytes c κs = search rules
 
 returns-then-rest-bytes : tie.Need-returns-then-rest-bytes
 returns-then-rest-bytes c =
-    let e = c.before.before.before.before in
-    c.none_read-then-rest-bytes.ensures ∙ sym (answer_15 (bytes e) (alphabet e) (count e) (spot e) (scanned e).1 (one c.before.before) (trails e (trails_bytes (bytes e) (behind e) c.before.if-rest-bytes.true)))
+    c.none_read-then-rest-bytes.ensures ∙ sym (answer_15 (bytes c.before.before.before.before) (alphabet c.before.before.before.before) (count c.before.before.before.before) (spot c.before.before.before.before) (scanned c).1 (one c.before.before) (trails c.before.before.before.before (trails_bytes (bytes c.before.before.before.before) (behind c.before.before.before.before) c.if-rest-bytes.true)))
 
 overflow_mul-bytes : tie.Need-overflow_mul-bytes
 overflow_mul-bytes c = omega (arith, near c.before.before.before)
@@ -105,21 +103,18 @@ none_read-requires-then-field-ne0 c κs = search rules
 
 returns-then-field-ne0 : tie.Need-returns-then-field-ne0
 returns-then-field-ne0 c =
-    let e = c.before.before.before.before.before.before in
-    c.none_read-then-field-ne0.ensures ∙ sym (answer_15 (bytes e) (alphabet e) (count e) (spot e) (scanned e).1 (one c.before.before.before.before) (trails e (trails_bits (bytes e) (behind e) c.before.before.before.if-rest-bytes.false _ c.before.before.field.ensures c.before.if-field-ne0.true)))
+    c.none_read-then-field-ne0.ensures ∙ sym (answer_15 (bytes c.before.before.before.before.before.before) (alphabet c.before.before.before.before.before.before) (count c.before.before.before.before.before.before) (spot c.before.before.before.before.before.before) (scanned c).1 (one c.before.before.before.before) (trails c.before.before.before.before.before.before (trails_bits (bytes c.before.before.before.before.before.before) (behind c.before.before.before.before.before.before) c.if-rest-bytes.false _ c.field.ensures c.if-field-ne0.true)))
 
 returns-in-Refused : tie.Need-returns-in-Refused
 returns-in-Refused c =
-    let a = c.before.before.before.before.before.before in
-    let found = c.before.before.found-1.given in
-    let stuck = scan_faulty (read a.args.rest.now a.args.alphabet a.args.count) found.0.0 (sym (ap (λ (t : Scan). t.outcome) c.before.before.before.before.scan_items-s.ensures) ∙ found.1) in
-    c.none_read.ensures ∙ sym (answer_faulty a.args.rest.now a.args.alphabet a.args.count _ stuck)
+    let found = c.found-1.given in
+    let stuck = scan_faulty (read c.args.rest.now c.args.alphabet c.args.count) found.0.0 (sym (ap (λ (t : Scan). t.outcome) c.scan_items-s.ensures) ∙ found.1) in
+    c.none_read.ensures ∙ sym (answer_faulty c.args.rest.now c.args.alphabet c.args.count _ stuck)
 
 returns-else-field-ne0 : tie.Need-returns-else-field-ne0
 returns-else-field-ne0 c =
-    let e = c.before.before.before.before.before.before in
-    let read : ◌≡◌ {A = ItemsRead} (record { outcome = Accepted; items = e.before.before.scan_items-s.result.items-1 }) (answered none (spot e).items-1) = λ i. record { outcome = Accepted; items = (kept e i).items-1 } in
-    read ∙ sym (answer_items (bytes e) (alphabet e) (count e) (spot e) (scanned e).1 (one c.before.before.before.before) (trails e (trails_none (bytes e) (behind e) c.before.before.before.if-rest-bytes.false _ c.before.before.field.ensures c.before.if-field-ne0.false)))
+    let read : ◌≡◌ {A = ItemsRead} (record { outcome = Accepted; items = c.scan_items-s.result.items }) (answered none (spot c.before.before.before.before.before.before).items) = λ i. record { outcome = Accepted; items = (kept c.before.before.before.before.before.before i).items } in
+    read ∙ sym (answer_items (bytes c.before.before.before.before.before.before) (alphabet c.before.before.before.before.before.before) (count c.before.before.before.before.before.before) (spot c.before.before.before.before.before.before) (scanned c).1 (one c.before.before.before.before) (trails c.before.before.before.before.before.before (trails_none (bytes c.before.before.before.before.before.before) (behind c.before.before.before.before.before.before) c.if-rest-bytes.false _ c.field.ensures c.if-field-ne0.false)))
 
 pub read_items_spec : {M : Type 1} → statement M
 read_items_spec =

@@ -32,20 +32,19 @@ loop-i-init c =
 
 -- the bytes, and the bounds of what was read
 abbrev bytes : tie.In-loop-i invariant-loop-i decreases-loop-i → List ℕ
-bytes c = c.before.before.before.before.args.rest.now
+bytes c = c.args.rest.now
 
 abbrev alphabet : tie.In-loop-i invariant-loop-i decreases-loop-i → ℕ
-alphabet c = c.before.before.before.before.args.alphabet
+alphabet c = c.args.alphabet
 
-bounds : (c : tie.In-loop-i invariant-loop-i decreases-loop-i) → (c.before.loop-i.at ≤ 34 * c.before.loop-i.i) × (c.before.loop-i.depth ≤ c.before.loop-i.i)
-bounds c = let loop = c.before.loop-i in near (bytes c) (alphabet c) loop.i loop.at loop.depth loop.items.kind loop.items.set loop.invariant.1
+bounds : (c : tie.In-loop-i invariant-loop-i decreases-loop-i) → (c.loop-i.at ≤ 34 * c.loop-i.i) × (c.loop-i.depth ≤ c.loop-i.i)
+bounds c = let loop = c.loop-i in near (bytes c) (alphabet c) loop.i loop.at loop.depth loop.items.kind loop.items.set loop.invariant.1
 
 -- an item that is not refused finds its operands
-enough : (c : tie.In_default invariant-loop-i decreases-loop-i) → arity (item_of c.before.before.item_at-f.result.kind 0) ≤ c.before.before.before.before.loop-i.depth
+enough : (c : tie.In_default invariant-loop-i decreases-loop-i) → arity (item_of c.item_at-f.result.kind 0) ≤ c.loop-i.depth
 enough c =
-    let e = c.before.before.before in
-    let loop = e.before.loop-i in
-    turn_enough (bytes e) (alphabet e) loop.i loop.at loop.depth loop.items.kind loop.items.set loop.invariant.1 c.before.before.item_at-f.result c.before.before.item_at-f.ensures c.enum_told-1.given.1
+    let loop = c.loop-i in
+    turn_enough (bytes c.before.before.before) (alphabet c.before.before.before) loop.i loop.at loop.depth loop.items.kind loop.items.set loop.invariant.1 c.item_at-f.result c.item_at-f.ensures c.enum_told-1.given.1
 
 item_at-f-requires : tie.Need-item_at-f-requires invariant-loop-i decreases-loop-i
 item_at-f-requires c κs = omega (arith, bounds c)
@@ -58,14 +57,12 @@ stopped-requires c κs = search rules
 
 returns-in-Refused : tie.Need-returns-in-Refused invariant-loop-i decreases-loop-i
 returns-in-Refused c =
-    let f = c.before.before.before.before in
-    let e = f.before in
-    let args = e.before.before.before.before.args in
-    let loop = e.before.loop-i in
-    let found = c.before.before.found-1.given in
-    let refused = turn_refused (bytes e) (alphabet e) loop.i loop.at loop.depth loop.items.kind loop.items.set loop.invariant.1 f.item_at-f.result f.item_at-f.ensures _ found.1 in
+    let args = c.args in
+    let loop = c.loop-i in
+    let found = c.found-1.given in
+    let refused = turn_refused (bytes c.before.before.before.before.before) (alphabet c.before.before.before.before.before) loop.i loop.at loop.depth loop.items.kind loop.items.set loop.invariant.1 c.item_at-f.result c.item_at-f.ensures _ found.1 in
     let rest : loop.i + 1 + (args.count - (loop.i + 1)) ≡ args.count = omega arith in
-    c.stopped.ensures ∙ ap scan_of (sym (faulty_later (bytes e) (alphabet e) (loop.i + 1) (args.count - (loop.i + 1)) _ refused) ∙ ap (read (bytes e) (alphabet e)) rest)
+    c.stopped.ensures ∙ ap scan_of (sym (faulty_later (bytes c.before.before.before.before.before) (alphabet c.before.before.before.before.before) (loop.i + 1) (args.count - (loop.i + 1)) _ refused) ∙ ap (read (bytes c.before.before.before.before.before) (alphabet c.before.before.before.before.before)) rest)
 
 enum_told-1 : tie.Need-enum_told-1 invariant-loop-i decreases-loop-i
 enum_told-1 c = search rules
@@ -87,8 +84,7 @@ width_of-at-requires c κs = search rules
 
 overflow_add-at : tie.Need-overflow_add-at invariant-loop-i decreases-loop-i
 overflow_add-at c =
-    let e = c.before.before.before.before in
-    omega (arith, bounds e.before, c.width_of_lem.ensures, width_item e.item_at-f.result.kind)
+    omega (arith, bounds c.before.before.before.before.before, c.width_of_lem.ensures, width_item c.item_at-f.result.kind)
 
 overflow_add-depth : tie.Need-overflow_add-depth invariant-loop-i decreases-loop-i
 overflow_add-depth c = omega (arith, bounds c.before.before.before.before.before)
@@ -107,19 +103,16 @@ loop-i-smaller c = search rules
 
 loop-i-preserved : tie.Need-loop-i-preserved invariant-loop-i decreases-loop-i
 loop-i-preserved c =
-    let t = c.before.before.before in
-    let f = t.before.before in
-    let e = f.before in
-    let loop = e.before.loop-i in
-    let item = f.item_at-f.result in
-    let more : scan_at (loop.at + c.before.width_of_lem.result) (loop.depth + 1 - c.arity_of.result) (loop.i + 1) (set loop.items.kind loop.i item.kind) (set loop.items.set loop.i item.set) ≡ added (scan_at loop.at loop.depth loop.i loop.items.kind loop.items.set) item = λ j. scan_at (loop.at + c.before.width_of_lem.ensures j) (loop.depth + 1 - c.arity_of.ensures.0 j) (loop.i + 1) (set loop.items.kind loop.i item.kind) (set loop.items.set loop.i item.set) in
-    (omega arith, more ∙ turn_accepted (bytes e) (alphabet e) loop.i loop.at loop.depth loop.items.kind loop.items.set loop.invariant.1 item f.item_at-f.ensures t.enum_told-1.given.1 (omega arith))
+    let loop = c.loop-i in
+    let item = c.item_at-f.result in
+    let more : scan_at (loop.at + c.width_of_lem.result) (loop.depth + 1 - c.arity_of.result) (loop.i + 1) (set loop.items.kind loop.i item.kind) (set loop.items.set loop.i item.set) ≡ added (scan_at loop.at loop.depth loop.i loop.items.kind loop.items.set) item = λ j. scan_at (loop.at + c.width_of_lem.ensures j) (loop.depth + 1 - c.arity_of.ensures.0 j) (loop.i + 1) (set loop.items.kind loop.i item.kind) (set loop.items.set loop.i item.set) in
+    (omega arith, more ∙ turn_accepted (bytes c.before.before.before.before.before.before) (alphabet c.before.before.before.before.before.before) loop.i loop.at loop.depth loop.items.kind loop.items.set loop.invariant.1 item c.item_at-f.ensures c.enum_told-1.given.1 (omega arith))
 
 returns : tie.Need-returns invariant-loop-i decreases-loop-i
 returns c =
-    let args = c.before.before.before.before.args in
-    let loop = c.before.loop-i in
-    let e : c.before.loop-i.i ≡ c.before.before.before.before.args.count = omega arith in
+    let args = c.args in
+    let loop = c.loop-i in
+    let e : c.loop-i.i ≡ c.args.count = omega arith in
     ap (λ (n : ℕ). scan_at loop.at loop.depth n loop.items.kind loop.items.set) (sym e) ∙ loop.invariant.1 ∙ ap (λ (n : ℕ). scan_of (read args.rest.now args.alphabet n)) e
 
 pub scan_items_spec : {M : Type 1} → statement M

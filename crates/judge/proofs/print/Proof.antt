@@ -8,13 +8,13 @@ use Rattle.judge.proofs.print.Tie as tie
 
 slice_bounds-bytes-end : tie.Need-slice_bounds-bytes-end
 slice_bounds-bytes-end c =
-    let long : length c.before.args.line.bytes-1 ≡ 128 = search rules in
-    omega (arith, c.before.requires)
+    let long : length c.args.line.bytes ≡ 128 = search rules in
+    omega (arith, c.requires)
 
 slice_bounds-write_all-end : tie.Need-slice_bounds-write_all-end
 slice_bounds-write_all-end c =
-    let long : length c.before.before.args.line.bytes-1 ≡ 128 = search rules in
-    simp length-take (omega (arith, c.before.before.requires))
+    let long : length c.args.line.bytes ≡ 128 = search rules in
+    simp length-take (omega (arith, c.requires))
 
 write_all-requires : tie.Need-write_all-requires
 write_all-requires c κs = search rules

@@ -10,12 +10,12 @@ bounds-text-at c = search rules
 
 returns-then-at-text : tie.Need-returns-then-at-text
 returns-then-at-text c =
-    let args = c.before.before.args in
+    let args = c.args in
     starts_at args.byte args.text.now args.at (omega arith)
 
 returns-else-at-text : tie.Need-returns-else-at-text
 returns-else-at-text c =
-    let args = c.before.args in
+    let args = c.args in
     starts_past args.byte args.text.now args.at (omega arith)
 
 pub is_at_spec : {M : Type 1} → statement M

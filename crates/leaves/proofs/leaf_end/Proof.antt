@@ -17,7 +17,7 @@ use Rattle.leaves.proofs.leaf_end.Tie as tie
 
 returns-then-text-at : tie.Need-returns-then-text-at
 returns-then-text-at c =
-    let args = c.before.before.args in
+    let args = c.args in
     ap leaf (drop_of_length-le args.text.now {i = args.at} (omega arith))
 
 bounds-text-at : tie.Need-bounds-text-at
@@ -31,8 +31,8 @@ overflow_add-result c = search rules
 
 returns-then-is_letter : tie.Need-returns-then-is_letter
 returns-then-is_letter c =
-    let args = c.before.before.before.before.before.args in
-    let letter = sym c.before.is_letter.ensures ∙ c.if-is_letter.true in
+    let args = c.args in
+    let letter = sym c.is_letter.ensures ∙ c.if-is_letter.true in
     (one_of (event_of (place args.text.now args.at) ∷ []), leaf_letter args.text.now args.at (omega arith) letter, omega arith, omega arith)
 
 overflow_add-result-then-c-eq48 : tie.Need-overflow_add-result-then-c-eq48
@@ -40,8 +40,8 @@ overflow_add-result-then-c-eq48 c = search rules
 
 returns-then-c-eq48 : tie.Need-returns-then-c-eq48
 returns-then-c-eq48 c =
-    let args = c.before.before.before.before.before.before.args in
-    let letter = sym c.before.before.is_letter.ensures ∙ c.before.if-is_letter.false in
+    let args = c.args in
+    let letter = sym c.is_letter.ensures ∙ c.if-is_letter.false in
     (empty_string, leaf_zero args.text.now args.at (omega arith) letter (eq-eqb _ _ c.if-c-eq48.true), omega arith, omega arith)
 
 overflow_add-at : tie.Need-overflow_add-at
@@ -52,18 +52,18 @@ set_end-requires c κs = search rules
 
 returns-then-c-eq91 : tie.Need-returns-then-c-eq91
 returns-then-c-eq91 c =
-    let args = c.before.before.before.before.before.before.before.before.args in
+    let args = c.args in
     let l = args.text.now in
-    let letter = sym c.before.before.before.before.is_letter.ensures ∙ c.before.before.before.if-is_letter.false in
-    let zero = ne_eqb _ _ c.before.before.if-c-eq48.false in
-    let set = leaf_set l args.at true (omega arith) letter zero (eq-eqb _ _ c.before.if-c-eq91.true) in
+    let letter = sym c.is_letter.ensures ∙ c.if-is_letter.false in
+    let zero = ne_eqb _ _ c.if-c-eq48.false in
+    let set = leaf_set l args.at true (omega arith) letter zero (eq-eqb _ _ c.if-c-eq91.true) in
     subst (λ (o : Outcome). Ends o l args.at c.set_end.result) (sym set) (ends_before (in_set (drop (args.at + 1) l)) l args.at c.set_end.result c.set_end.ensures)
 
 returns : tie.Need-returns
 returns c =
-    let args = c.before.before.before.before.before.before.before.args in
-    let letter = sym c.before.before.before.is_letter.ensures ∙ c.before.before.if-is_letter.false in
-    leaf_set args.text.now args.at false (omega arith) letter (ne_eqb _ _ c.before.if-c-eq48.false) (ne_eqb _ _ c.if-c-eq91.false)
+    let args = c.args in
+    let letter = sym c.is_letter.ensures ∙ c.if-is_letter.false in
+    leaf_set args.text.now args.at false (omega arith) letter (ne_eqb _ _ c.if-c-eq48.false) (ne_eqb _ _ c.if-c-eq91.false)
 
 pub leaf_end_spec : {M : Type 1} → statement M
 leaf_end_spec =

@@ -14,12 +14,12 @@ is_letter-requires c κs = search rules
 
 returns-then-at-text : tie.Need-returns-then-at-text
 returns-then-at-text c =
-    let args = c.before.before.before.before.args in
+    let args = c.args in
     c.is_letter.ensures ∙ letter_at args.text.now args.at (omega arith)
 
 returns-else-at-text : tie.Need-returns-else-at-text
 returns-else-at-text c =
-    let args = c.before.before.args in
+    let args = c.args in
     letter_past args.text.now args.at (omega arith)
 
 pub letter_at_spec : {M : Type 1} → statement M

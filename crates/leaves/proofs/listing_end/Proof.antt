@@ -21,14 +21,14 @@ overflow_add-result c = search rules
 
 returns-then-is_at : tie.Need-returns-then-is_at
 returns-then-is_at c tree =
-    let args = c.before.before.before.before.args in
-    let n = c.before.before.past_letters-end.result in
-    let past = c.before.before.past_letters-end.ensures in
-    let found = sym c.before.is_at.ensures ∙ c.if-is_at.true in
+    let args = c.args in
+    let n = c.past_letters-end.result in
+    let past = c.past_letters-end.ensures in
+    let found = sym c.is_at.ensures ∙ c.if-is_at.true in
     (tree (letters (drop args.at args.text.now)), listing_next tree _ args.text.now n past.0 found, omega (arith, past.1), omega (arith, starts_within closing_set args.text.now n found))
 
 returns-else-is_at : tie.Need-returns-else-is_at
-returns-else-is_at c tree = listing_broken tree _ _ c.before.before.past_letters-end.ensures.0 (sym c.before.is_at.ensures ∙ c.if-is_at.false)
+returns-else-is_at c tree = listing_broken tree _ _ c.past_letters-end.ensures.0 (sym c.is_at.ensures ∙ c.if-is_at.false)
 
 pub listing_end_spec : {M : Type 1} → statement M
 listing_end_spec =

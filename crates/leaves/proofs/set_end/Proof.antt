@@ -20,14 +20,14 @@ overflow_add-at c = search rules
 
 listing_end-requires : tie.Need-listing_end-requires
 listing_end-requires c κs =
-    let args = c.before.before.before.args in
-    omega (arith, starts_within caret args.text.now args.at (sym c.before.is_at.ensures ∙ c.if-is_at.true))
+    let args = c.args in
+    omega (arith, starts_within caret args.text.now args.at (sym c.is_at.ensures ∙ c.if-is_at.true))
 
 returns-then-is_at : tie.Need-returns-then-is_at
 returns-then-is_at c =
-    let args = c.before.before.before.before.args in
+    let args = c.args in
     let l = args.text.now in
-    let found = sym c.before.before.is_at.ensures ∙ c.before.if-is_at.true in
+    let found = sym c.is_at.ensures ∙ c.if-is_at.true in
     subst (λ (o : Outcome). Ends o l args.at c.listing_end.result) (sym (set_caret l args.at found)) (ends_before (listing noneOf (drop (args.at + 1) l)) l args.at c.listing_end.result (c.listing_end.ensures noneOf))
 
 listing_end-requires-2 : tie.Need-listing_end-requires-2
@@ -35,8 +35,8 @@ listing_end-requires-2 c κs = search rules
 
 returns : tie.Need-returns
 returns c =
-    let args = c.before.before.before.before.args in
-    let other = sym c.before.before.is_at.ensures ∙ c.before.if-is_at.false in
+    let args = c.args in
+    let other = sym c.is_at.ensures ∙ c.if-is_at.false in
     subst (λ (o : Outcome). Ends o args.text.now args.at c.listing_end-2.result) (sym (set_plain _ other)) (c.listing_end-2.ensures one_of)
 
 pub set_end_spec : {M : Type 1} → statement M

@@ -20,7 +20,7 @@ arm : {line made : Line} {a b : Answer} → line ≡ made → made ≡ line_arra
 arm e t l q = (e ∙ t ∙ ap (λ a. line_array (answer_text a)) (sym q), rw e l)
 
 -- the line before its end
-so_far : (c : tie.Joined-a) → (c.match-a.line ≡ line_array (answer_text c.before.args.a)) × (c.match-a.line.used < 128)
+so_far : (c : tie.Joined-a) → (c.in-Refused.line ≡ line_array (answer_text c.args.a)) × (c.in-Refused.line.used < 128)
 so_far c =
     ⊎_elim
     (λ w.
@@ -28,7 +28,7 @@ so_far c =
     arm w.6 h.0 (omega (arith, h.1, ap (λ (r : Line). r.used) h.0)) w.1.given.1)
     (⊎_elim (λ w. arm w.5 w.4.ensures.0 w.4.ensures.1 w.1.given.1)
     (λ w. arm w.5 w.4.ensures.0 w.4.ensures.1 w.1.given.1))
-    c.match-a.branch
+    c.in-Refused.branch-raw
 
 enum_known-a : tie.Need-enum_known-a
 enum_known-a c = search rules
@@ -53,14 +53,14 @@ with_fields-line-requires-in-Inconclusive c κs = search rules
 
 with_text-requires : tie.Need-with_text-requires
 with_text-requires c κs =
-    let e = so_far c.before in
-    (answer_text c.before.before.args.a, e.0, omega (arith, e.1, ap (λ (r : Line). r.used) e.0))
+    let e = so_far c.before.before in
+    (answer_text c.args.a, e.0, omega (arith, e.1, ap (λ (r : Line). r.used) e.0))
 
 returns : tie.Need-returns
 unfolding line_of
 returns c =
-    let e = so_far c.before.before in
-    let a = c.before.before.before.args.a in
+    let e = so_far c.before.before.before in
+    let a = c.args.a in
     let all = c.with_text.ensures (answer_text a) e.0 in
     (all, omega (arith, e.1, ap (λ (r : Line). r.used) e.0, ap (λ (r : Line). r.used) all, length-append (answer_text a) (text "\n")))
 

@@ -12,10 +12,10 @@ use Rattle.line.proofs.with_count.Statement.{statement}
 use Rattle.line.proofs.with_count.Tie as tie
 
 -- the digits that are written
-written : (c : tie.After-decimal-k) → take c.decimal-k.result c.decimal-k.new.1.0 ≡ decimal c.before.before.before.args.n
+written : (c : tie.After-decimal-k) → take c.decimal-k.result c.decimal-k.new.1.0 ≡ decimal c.args.n
 written c =
     let e = c.decimal-k.ensures in
-    e.1.1 ∙ decimal_digits c.decimal-k.result c.before.before.before.args.n (omega arith) e.1.0
+    e.1.1 ∙ decimal_digits c.decimal-k.result c.args.n (omega arith) e.1.0
 
 decimal-k-requires : tie.Need-decimal-k-requires
 decimal-k-requires c κs = search rules
@@ -28,13 +28,12 @@ slice_bounds-with_field-end c = search rules
 
 with_field-requires : tie.Need-with_field-requires
 with_field-requires c κs =
-    let start = c.before.before.before.before in
-    let short = decimal_short start.args.n (omega arith) in
-    (start.requires.0, start.requires.1, rw (written c.before) (omega arith))
+    let short = decimal_short c.args.n (omega arith) in
+    (c.requires.0, c.requires.1, rw (written c.before) (omega arith))
 
 returns : tie.Need-returns
 returns c l e =
-    let text = c.before.before.before.before.before.args.text.now in
+    let text = c.args.text.now in
     c.with_field.ensures l e ∙ ap (λ (xs : List ℕ). line_array (l ++ text ++ xs)) (written c.before.before)
 
 pub with_count_spec : {M : Type 1} → statement M

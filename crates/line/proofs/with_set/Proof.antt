@@ -12,10 +12,10 @@ use Rattle.line.proofs.with_set.Statement.{statement}
 use Rattle.line.proofs.with_set.Tie as tie
 
 -- the digits that are written
-written : (c : tie.After-hex-k) → take c.hex-k.result c.hex-k.new.1.1.0 ≡ hexadecimal c.before.before.before.args.m
+written : (c : tie.After-hex-k) → take c.hex-k.result c.hex-k.new.1.1.0 ≡ hexadecimal c.args.m
 written c =
     let e = c.hex-k.ensures in
-    e.1.1 ∙ hexadecimal_digits c.hex-k.result c.before.before.before.args.m (omega arith) e.1.0
+    e.1.1 ∙ hexadecimal_digits c.hex-k.result c.args.m (omega arith) e.1.0
 
 hex-k-requires : tie.Need-hex-k-requires
 hex-k-requires c κs = search rules
@@ -28,12 +28,11 @@ slice_bounds-with_field-end c = search rules
 
 with_field-requires : tie.Need-with_field-requires
 with_field-requires c κs =
-    let start = c.before.before.before.before in
-    (start.requires.0, start.requires.1, rw (written c.before) (omega arith))
+    (c.requires.0, c.requires.1, rw (written c.before) (omega arith))
 
 returns : tie.Need-returns
 returns c l e =
-    let text = c.before.before.before.before.before.args.text.now in
+    let text = c.args.text.now in
     c.with_field.ensures l e ∙ ap (λ (xs : List ℕ). line_array (l ++ text ++ xs)) (written c.before.before)
 
 pub with_set_spec : {M : Type 1} → statement M

@@ -30,7 +30,7 @@ decreases-loop-i text bytes₀ used₀ i₀ bytes used i = length text - i
 
 loop-i-init : tie.Need-loop-i-init invariant-loop-i decreases-loop-i
 loop-i-init c =
-    let pre = c.before.requires in
+    let pre = c.requires in
     (omega arith, omega (arith, ap (λ (r : Line). r.used) pre.1), omega arith, λ l b u. b ∙ ap (padded 128) (sym (append-nil l)))
 
 bounds-text-i : tie.Need-bounds-text-i invariant-loop-i decreases-loop-i
@@ -50,8 +50,8 @@ loop-i-smaller c = omega arith
 
 loop-i-preserved : tie.Need-loop-i-preserved invariant-loop-i decreases-loop-i
 loop-i-preserved c =
-    let args = c.before.before.before.before.args in
-    let loop = c.before.before.loop-i in (
+    let args = c.args in
+    let loop = c.loop-i in (
       omega arith,
       omega arith,
       omega arith,
@@ -60,8 +60,8 @@ loop-i-preserved c =
 
 returns : tie.Need-returns invariant-loop-i decreases-loop-i
 returns c l e =
-    let args = c.before.before.before.args in
-    let loop = c.before.loop-i in
+    let args = c.args in
+    let loop = c.loop-i in
     let start : args.line.used ≡ length l = ap (λ (r : Line). r.used) e in
     let got = loop.invariant.3 l (ap (λ (r : Line). r.bytes) e) start in
     let all = ap (λ (xs : List ℕ). padded 128 (l ++ xs)) (take_all loop.i args.text.now (omega arith)) in

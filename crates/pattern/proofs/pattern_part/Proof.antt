@@ -27,29 +27,28 @@ use Rattle.pattern.proofs.pattern_part.Tie as tie
 
 -- the bytes, and what the reader said of them, where it has no refusal
 abbrev bytes : tie.In-Accepted → List ℕ
-bytes c = c.before.before.before.before.before.before.args.plan.now
+bytes c = c.args.plan.now
 
 passed : (c : tie.In-Accepted) → first readable (bytes c) ≡ none
-passed c = read_accepted (bytes c) (ap (λ (r : PatternRead). r.reading-1.outcome) (sym c.before.before.before.read_pattern-read.ensures.0) ∙ c.enum_told-in-Accepted-1.given.1)
+passed c = read_accepted (bytes c) (ap (λ (r : PatternRead). r.reading.outcome) (sym c.read_pattern-read.ensures.0) ∙ c.enum_told-in-Accepted-1.given.1)
 
-read : (c : tie.In-Accepted) → c.before.before.before.read_pattern-read.result-1 ≡ accepted (bytes c)
-read c = c.before.before.before.read_pattern-read.ensures.0 ∙ answer (bytes c) none (passed c)
+read : (c : tie.In-Accepted) → c.read_pattern-read.result ≡ accepted (bytes c)
+read c = c.read_pattern-read.ensures.0 ∙ answer (bytes c) none (passed c)
 
-starts : (c : tie.In-Accepted) → c.before.before.before.read_pattern-read.result-1.reading-1.pattern ≤ length (bytes c)
+starts : (c : tie.In-Accepted) → c.read_pattern-read.result.reading.pattern ≤ length (bytes c)
 starts c =
-    let e : c.before.before.before.read_pattern-read.result-1.reading-1.pattern ≡ pattern_at (head_of (bytes c)) = ap (λ (r : PatternRead). r.reading-1.pattern) (read c) in
+    let e : c.read_pattern-read.result.reading.pattern ≡ pattern_at (head_of (bytes c)) = ap (λ (r : PatternRead). r.reading.pattern) (read c) in
     omega (arith, pattern_there (bytes c) (before_items (bytes c) (passed c)))
 
 not_empty : (c : tie.In-Accepted) → 1 ≤ length (bytes c)
 not_empty c = omega (arith, pattern_there (bytes c) (before_items (bytes c) (passed c)))
 
 -- refusal 16 goes by the pattern of the plan
-over : (c : tie.After-few_states) → c.few_states.result-1 ≡ not (too_many_states (bytes c.before.before.before))
+over : (c : tie.After-few_states) → c.few_states.result ≡ not (too_many_states (bytes c.before.before.before))
 over c =
-    let e = c.before.before.before in
     c.few_states.ensures
-    ∙ ap (λ (r : PatternRead). not (over_limit (states_of (pattern_of (items_on r.items-1)) r.reading-1.plan.alphabet))) (read e)
-    ∙ ap (λ (l : List Item). not (over_limit (states_of (pattern_of l) (plan_of (bytes e)).alphabet))) (items_kept (items_of_plan (bytes e)))
+    ∙ ap (λ (r : PatternRead). not (over_limit (states_of (pattern_of (items_on r.items)) r.reading.plan.alphabet))) (read c.before.before.before)
+    ∙ ap (λ (l : List Item). not (over_limit (states_of (pattern_of l) (plan_of (bytes c.before.before.before)).alphabet))) (items_kept (items_of_plan (bytes c.before.before.before)))
 
 read_pattern-read-requires : tie.Need-read_pattern-read-requires
 read_pattern-read-requires c κs = search rules
@@ -70,7 +69,7 @@ enum_told-in-Accepted : tie.Need-enum_told-in-Accepted
 enum_told-in-Accepted c = search rules
 
 few_states-requires : tie.Need-few_states-requires
-few_states-requires c κs = subst (λ (r : PatternRead). Postfix r.items-1) (sym (read c.before.before)) (plan_postfix (bytes c.before.before) (passed c.before.before))
+few_states-requires c κs = subst (λ (r : PatternRead). Postfix r.items) (sym (read c.before.before)) (plan_postfix (bytes c.before.before) (passed c.before.before))
 
 slice_bounds-result-count-then-few_states : tie.Need-slice_bounds-result-count-then-few_states
 slice_bounds-result-count-then-few_states c = omega (arith, starts c.before.before.before.before)
@@ -93,30 +92,28 @@ slice_bounds-result-end-else-few_states c = omega (arith, not_empty c.before.bef
 
 returns-in-Refused : tie.Need-returns-in-Refused
 returns-in-Refused c =
-    let b = c.before.before.before.before.before.before.before.args.plan.now in
-    let found = c.before.enum_told-1.given in
-    let e = refused_early b found.0.0 (read_refused b found.0.0 (ap (λ (r : PatternRead). r.reading-1.outcome) (sym c.before.before.before.before.read_pattern-read.ensures.0) ∙ found.1)) in
+    let b = c.args.plan.now in
+    let found = c.enum_told-1.given in
+    let e = refused_early b found.0.0 (read_refused b found.0.0 (ap (λ (r : PatternRead). r.reading.outcome) (sym c.read_pattern-read.ensures.0) ∙ found.1)) in
     record { bytes = sym (part_is b (some found.0.0) e); block = refl; offset = omega (arith, start_is b (some found.0.0) e) }
 
 returns-then-few_states : tie.Need-returns-then-few_states
 returns-then-few_states c =
-    let e = c.before.before.before.before.before in
-    let b = bytes e in
-    let at = e.before.before.before.read_pattern-read.result-1.reading-1.pattern in
-    let free = decided_by_states b (passed e) false (not-true _ (sym (over c.before.before) ∙ c.before.if-few_states.true)) in
+    let b = bytes c.before.before.before.before.before in
+    let at = c.read_pattern-read.result.reading.pattern in
+    let free = decided_by_states b (passed c.before.before.before.before.before) false (not-true _ (sym (over c.before.before) ∙ c.if-few_states.true)) in
     record {
       bytes =
-          take_all (length b - at) (drop at b) (le_of_eq (length-drop at b)) ∙ ap (λ (r : PatternRead). drop r.reading-1.pattern b) (read e)
+          take_all (length b - at) (drop at b) (le_of_eq (length-drop at b)) ∙ ap (λ (r : PatternRead). drop r.reading.pattern b) (read c.before.before.before.before.before)
           ∙ sym (part_is b none free);
       block = refl;
-      offset = omega (arith, ap (λ (r : PatternRead). r.reading-1.pattern) (read e), start_is b none free);
+      offset = omega (arith, ap (λ (r : PatternRead). r.reading.pattern) (read c.before.before.before.before.before), start_is b none free);
     }
 
 returns-else-few_states : tie.Need-returns-else-few_states
 returns-else-few_states c =
-    let e = c.before.before.before.before.before in
-    let over16 = decided_by_states (bytes e) (passed e) true (not-false _ (sym (over c.before.before) ∙ c.before.if-few_states.false)) in
-    record { bytes = sym (part_is (bytes e) (some 16) over16); block = refl; offset = omega (arith, start_is (bytes e) (some 16) over16) }
+    let over16 = decided_by_states (bytes c.before.before.before.before.before) (passed c.before.before.before.before.before) true (not-false _ (sym (over c.before.before) ∙ c.if-few_states.false)) in
+    record { bytes = sym (part_is (bytes c.before.before.before.before.before) (some 16) over16); block = refl; offset = omega (arith, start_is (bytes c.before.before.before.before.before) (some 16) over16) }
 
 pub pattern_part_spec : {M : Type 1} → statement M
 pattern_part_spec =

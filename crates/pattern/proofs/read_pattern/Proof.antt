@@ -26,16 +26,16 @@ use Rattle.pattern.proofs.read_pattern.Tie as tie
 
 -- the bytes, and what the reader of the plan said of them, where it has no refusal
 abbrev bytes : tie.In-Accepted → List ℕ
-bytes c = c.before.before.before.before.before.args.plan.now
+bytes c = c.args.plan.now
 
 passed : (c : tie.In-Accepted) → first order (bytes c) ≡ none
-passed c = order_accepted (bytes c) (ap (λ (r : Reading). r.outcome) (sym c.before.before.read_plan-reading.ensures.0) ∙ c.enum_told-1.given.1)
+passed c = order_accepted (bytes c) (ap (λ (r : Reading). r.outcome) (sym c.read_plan-reading.ensures.0) ∙ c.enum_told-1.given.1)
 
-plan_read : (c : tie.In-Accepted) → c.before.before.read_plan-reading.result ≡ plan.accepted (bytes c)
-plan_read c = c.before.before.read_plan-reading.ensures.0 ∙ reading_is (bytes c) none (passed c)
+plan_read : (c : tie.In-Accepted) → c.read_plan-reading.result ≡ plan.accepted (bytes c)
+plan_read c = c.read_plan-reading.ensures.0 ∙ reading_is (bytes c) none (passed c)
 
-starts : (c : tie.In-Accepted) → c.before.before.read_plan-reading.result.pattern ≤ length (bytes c)
-starts c = let e : c.before.before.read_plan-reading.result.pattern ≡ pattern_at (head_of (bytes c)) = ap (λ (r : Reading). r.pattern) (plan_read c) in omega (arith, pattern_there (bytes c) (passed c))
+starts : (c : tie.In-Accepted) → c.read_plan-reading.result.pattern ≤ length (bytes c)
+starts c = let e : c.read_plan-reading.result.pattern ≡ pattern_at (head_of (bytes c)) = ap (λ (r : Reading). r.pattern) (plan_read c) in omega (arith, pattern_there (bytes c) (passed c))
 
 read_plan-reading-requires : tie.Need-read_plan-reading-requires
 read_plan-reading-requires c κs = search rules
@@ -59,17 +59,16 @@ slice_bounds-read_items-end : tie.Need-slice_bounds-read_items-end
 slice_bounds-read_items-end c = search rules
 
 read_items-read-requires : tie.Need-read_items-read-requires
-read_items-read-requires c κs = rw (ap (λ (r : Reading). r.plan.items-1) (plan_read c.before.before)) (legal (bytes c.before.before) (passed c.before.before)).items-1
+read_items-read-requires c κs = rw (ap (λ (r : Reading). r.plan.items) (plan_read c.before.before)) (legal (bytes c.before.before) (passed c.before.before)).items
 
 -- the reader of items receives the plan from the pattern's byte on
-items_found : (c : tie.After-read_items-read) → c.read_items-read.result ≡ items_read_of (rest (bytes c.before.before.before)) (plan_of (bytes c.before.before.before)).alphabet (plan_of (bytes c.before.before.before)).items-1
+items_found : (c : tie.After-read_items-read) → c.read_items-read.result ≡ items_read_of (rest (bytes c.before.before.before)) (plan_of (bytes c.before.before.before)).alphabet (plan_of (bytes c.before.before.before)).items
 items_found c =
-    let e = c.before.before.before in
-    let b = bytes e in
-    let r = e.before.before.read_plan-reading.result in
+    let b = bytes c.before.before.before in
+    let r = c.read_plan-reading.result in
     let part : take (length b - r.pattern) (drop r.pattern b) ≡ drop r.pattern b = take_all (length b - r.pattern) (drop r.pattern b) (le_of_eq (length-drop r.pattern b)) in
-    c.read_items-read.ensures ∙ ap (λ (l : List ℕ). items_read_of l r.plan.alphabet r.plan.items-1) part
-    ∙ ap (λ (x : Reading). items_read_of (drop x.pattern b) x.plan.alphabet x.plan.items-1) (plan_read e)
+    c.read_items-read.ensures ∙ ap (λ (l : List ℕ). items_read_of l r.plan.alphabet r.plan.items) part
+    ∙ ap (λ (x : Reading). items_read_of (drop x.pattern b) x.plan.alphabet x.plan.items) (plan_read c.before.before.before)
 
 enum_known-items_found : tie.Need-enum_known-items_found
 enum_known-items_found c = search rules
@@ -82,27 +81,23 @@ enum_told-in-Accepted-items_found c = search rules
 
 returns-in-Refused : tie.Need-returns-in-Refused
 returns-in-Refused c =
-    let b = c.before.before.before.before.before.before.before.args.plan.now in
-    let found = c.before.before.found-1.given in
-    let refused = order_refused b found.0.0 (ap (λ (r : Reading). r.outcome) (sym c.before.before.before.before.read_plan-reading.ensures.0) ∙ found.1) in
-    (c.turned_down.ensures ∙ sym (answer_order b found.0.0 refused), c.before.before.before.before.read_plan-reading.ensures.1)
+    let b = c.args.plan.now in
+    let found = c.found-1.given in
+    let refused = order_refused b found.0.0 (ap (λ (r : Reading). r.outcome) (sym c.read_plan-reading.ensures.0) ∙ found.1) in
+    (c.turned_down.ensures ∙ sym (answer_order b found.0.0 refused), c.read_plan-reading.ensures.1)
 
 returns-in-Refused-items_found : tie.Need-returns-in-Refused-items_found
 returns-in-Refused-items_found c =
-    let r = c.before.before.before.before in
-    let e = r.before.before.before in
-    let found = c.before.before.items_found-1.given in
-    let refused = items_refused (rest (bytes e)) _ _ found.0.0 (ap (λ (x : ItemsRead). x.outcome) (sym (items_found r)) ∙ found.1) in
-    (c.turned_down-in-Refused-items_found.ensures ∙ sym (answer_items (bytes e) (passed e) found.0.0 refused), e.before.before.read_plan-reading.ensures.1)
+    let found = c.items_found-1.given in
+    let refused = items_refused (rest (bytes c.before.before.before.before.before.before.before)) _ _ found.0.0 (ap (λ (x : ItemsRead). x.outcome) (sym (items_found c.before.before.before.before)) ∙ found.1) in
+    (c.turned_down-in-Refused-items_found.ensures ∙ sym (answer_items (bytes c.before.before.before.before.before.before.before) (passed c.before.before.before.before.before.before.before) found.0.0 refused), c.read_plan-reading.ensures.1)
 
 returns-in-Accepted-items_found : tie.Need-returns-in-Accepted-items_found
 returns-in-Accepted-items_found c =
-    let r = c.before.before.before in
-    let e = r.before.before.before in
-    let fine = items_accepted (rest (bytes e)) (plan_of (bytes e)).alphabet (plan_of (bytes e)).items-1 (ap (λ (x : ItemsRead). x.outcome) (sym (items_found r)) ∙ c.before.enum_told-in-Accepted-items_found-1.given.1) in
-    let read = items_found r ∙ items_read (rest (bytes e)) (plan_of (bytes e)).alphabet (plan_of (bytes e)).items-1 fine in
-    let whole : ◌≡◌ {A = PatternRead} (record { reading = e.before.before.read_plan-reading.result; items = r.read_items-read.result.items-1 }) (accepted (bytes e)) = λ i. record { reading = plan_read e i; items = (read i).items-1 } in
-    (whole ∙ sym (answer_none (bytes e) (passed e) fine), e.before.before.read_plan-reading.ensures.1)
+    let fine = items_accepted (rest (bytes c.before.before.before.before.before.before)) (plan_of (bytes c.before.before.before.before.before.before)).alphabet (plan_of (bytes c.before.before.before.before.before.before)).items (ap (λ (x : ItemsRead). x.outcome) (sym (items_found c.before.before.before)) ∙ c.enum_told-in-Accepted-items_found-1.given.1) in
+    let read = items_found c.before.before.before ∙ items_read (rest (bytes c.before.before.before.before.before.before)) (plan_of (bytes c.before.before.before.before.before.before)).alphabet (plan_of (bytes c.before.before.before.before.before.before)).items fine in
+    let whole : ◌≡◌ {A = PatternRead} (record { reading = c.read_plan-reading.result; items = c.read_items-read.result.items }) (accepted (bytes c.before.before.before.before.before.before)) = λ i. record { reading = plan_read c.before.before.before.before.before.before i; items = (read i).items } in
+    (whole ∙ sym (answer_none (bytes c.before.before.before.before.before.before) (passed c.before.before.before.before.before.before) fine), c.read_plan-reading.ensures.1)
 
 pub read_pattern_spec : {M : Type 1} → statement M
 read_pattern_spec =

@@ -10,7 +10,7 @@ blank-requires : tie.Need-blank-requires
 blank-requires c κs = search rules
 
 returns : tie.Need-returns
-returns c = λ i. record { reading = c.before.turned_down.ensures i; items = c.blank.ensures i }
+returns c = λ i. record { reading = c.turned_down.ensures i; items = c.blank.ensures i }
 
 pub turned_down_spec : {M : Type 1} → statement M
 turned_down_spec = tie.close (tie.spec turned_down-requires blank-requires returns)

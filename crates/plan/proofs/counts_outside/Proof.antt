@@ -30,7 +30,7 @@ returns : tie.Need-returns
 unfolding counts_outside
 returns c =
     λ i.
-    c.before.before.before.before.before.before.is_outside-jobs.ensures i || (c.before.before.before.before.before.is_outside-nodes.ensures i || (c.before.before.before.before.is_outside-steps.ensures i || (c.before.before.before.is_outside-calls.ensures i || (c.before.before.is_outside-accepts.ensures i || (c.before.is_outside-channels.ensures i || c.is_outside-items.ensures i)))))
+    c.is_outside-jobs.ensures i || (c.is_outside-nodes.ensures i || (c.is_outside-steps.ensures i || (c.is_outside-calls.ensures i || (c.is_outside-accepts.ensures i || (c.is_outside-channels.ensures i || c.is_outside-items.ensures i)))))
 
 pub counts_outside_spec : {M : Type 1} → statement M
 counts_outside_spec =

@@ -20,7 +20,7 @@ use Rattle.plan.proofs.framed.Tie as tie
 
 -- the bytes, at the places that the answers go back to
 abbrev bytes : tie.Else-plan-lt11 → List ℕ
-bytes c = c.before.before.args.plan.now
+bytes c = c.args.plan.now
 
 abbrev long_enough : tie.Else-counts_outside → tie.Else-plan-lt11
 long_enough c = c.before.before.before
@@ -31,17 +31,17 @@ long c = le-ltb _ _ c.if-plan-lt11.false
 
 -- refusal 2 goes by its test
 outside : (c : tie.After-counts_outside) → c.counts_outside.result ≡ counts_wrong (bytes c.before.before)
-outside c = c.counts_outside.ensures ∙ ap counts_outside c.before.read_head-h.ensures
+outside c = c.counts_outside.ensures ∙ ap counts_outside c.read_head-h.ensures
 
 inside : (c : tie.Else-counts_outside) → counts_wrong (bytes (long_enough c)) ≡ false
 inside c = told (outside c.before) c.if-counts_outside.false
 
-counted : (c : tie.Else-counts_outside) → Ranged c.before.before.read_head-h.result
-counted c = ranged _ (told c.before.counts_outside.ensures c.if-counts_outside.false)
+counted : (c : tie.Else-counts_outside) → Ranged c.read_head-h.result
+counted c = ranged _ (told c.counts_outside.ensures c.if-counts_outside.false)
 
 -- where the sections end
 ended : (c : tie.After-end_of-end) → c.end_of_lem.result ≡ end_at (head_of (bytes (long_enough c.before)))
-ended c = c.end_of_lem.ensures ∙ ap end_at c.before.before.before.read_head-h.ensures
+ended c = c.end_of_lem.ensures ∙ ap end_at c.read_head-h.ensures
 
 -- refusals 3 and 4, from there
 abbrev short_of : List ℕ → ℕ → Bool
@@ -58,7 +58,7 @@ filling c =
     ap (filled_from (bytes (long_enough c.before.before.before))) (sym (ended c.before.before)) ∙ ap (λ (n : ℕ). not (eqb n 0)) (sym c.field.ensures)
 
 returns-then-plan-lt11 : tie.Need-returns-then-plan-lt11
-returns-then-plan-lt11 c = sym (ap outcome_of (framing_1 c.before.before.args.plan.now (lt-ltb _ _ c.if-plan-lt11.true)))
+returns-then-plan-lt11 c = sym (ap outcome_of (framing_1 c.args.plan.now (lt-ltb _ _ c.if-plan-lt11.true)))
 
 read_head-h-requires : tie.Need-read_head-h-requires
 read_head-h-requires c κs = search rules
@@ -68,8 +68,7 @@ counts_outside-requires c κs = search rules
 
 returns-then-counts_outside : tie.Need-returns-then-counts_outside
 returns-then-counts_outside c =
-    let one = c.before.before.before in
-    sym (ap outcome_of (framing_2 (bytes one) (long one) (told (outside c.before) c.if-counts_outside.true)))
+    sym (ap outcome_of (framing_2 (bytes c.before.before.before) (long c.before.before.before) (told (outside c.before) c.if-counts_outside.true)))
 
 end_of-end-requires : tie.Need-end_of-end-requires
 end_of-end-requires c κs = let r = counted c in (r.jobs, r.steps, r.channels, r.calls, r.accepts)
@@ -79,32 +78,27 @@ overflow_add-bytes c = omega (arith, counted c.before, c.end_of_lem.ensures)
 
 returns-then-plan-bytes : tie.Need-returns-then-plan-bytes
 returns-then-plan-bytes c =
-    let two = c.before.before in
-    let b = bytes (long_enough two) in
-    sym (ap outcome_of (framing_3 b (long (long_enough two)) (inside two) (ap (short_of b) (sym (ended c.before)) ∙ lt-ltb _ _ c.if-plan-bytes.true)))
+    let b = bytes (long_enough c.before.before) in
+    sym (ap outcome_of (framing_3 b (long (long_enough c.before.before)) (inside c.before.before) (ap (short_of b) (sym (ended c.before)) ∙ lt-ltb _ _ c.if-plan-bytes.true)))
 
 overflow_mul-bytes : tie.Need-overflow_mul-bytes
-overflow_mul-bytes c = omega (arith, counted c.before.before, c.before.end_of_lem.ensures)
+overflow_mul-bytes c = omega (arith, counted c.before.before, c.end_of_lem.ensures)
 
 overflow_sub-bytes : tie.Need-overflow_sub-bytes
 overflow_sub-bytes c = search rules
 
 field-requires : tie.Need-field-requires
-field-requires c κs = omega (arith, counted c.before.before, c.before.end_of_lem.ensures, c.if-plan-bytes.false)
+field-requires c κs = omega (arith, counted c.before.before, c.end_of_lem.ensures, c.if-plan-bytes.false)
 
 returns-then-field-ne0 : tie.Need-returns-then-field-ne0
 returns-then-field-ne0 c =
-    let three = c.before.before in
-    let two = three.before.before in
-    let one = long_enough two in
-    sym (ap outcome_of (framing_4 (bytes one) (long one) (inside two) (whole three) (filling c.before ∙ ap not (ne_eqb _ 0 c.if-field-ne0.true))))
+    let one = long_enough c.before.before.before.before in
+    sym (ap outcome_of (framing_4 (bytes one) (long one) (inside c.before.before.before.before) (whole c.before.before) (filling c.before ∙ ap not (ne_eqb _ 0 c.if-field-ne0.true))))
 
 returns : tie.Need-returns
 returns c =
-    let three = c.before.before in
-    let two = three.before.before in
-    let one = long_enough two in
-    sym (ap outcome_of (framing_none (bytes one) (long one) (inside two) (whole three) (filling c.before ∙ ap not (eq-eqb _ 0 c.if-field-ne0.false))))
+    let one = long_enough c.before.before.before.before in
+    sym (ap outcome_of (framing_none (bytes one) (long one) (inside c.before.before.before.before) (whole c.before.before) (filling c.before ∙ ap not (eq-eqb _ 0 c.if-field-ne0.false))))
 
 pub framed_spec : {M : Type 1} → statement M
 framed_spec =

@@ -47,8 +47,8 @@ loop-i-smaller c = omega arith
 
 loop-i-preserved : tie.Need-loop-i-preserved invariant-loop-i decreases-loop-i
 loop-i-preserved c =
-    let jobs = c.before.before.before.before.args.t2 in
-    let loop = c.before.before.before.loop-i in
+    let jobs = c.args.t2 in
+    let loop = c.loop-i in
     let w = c.wide-size.ensures in
     let more = total_more (job_in jobs) loop.i in (
       omega arith,
@@ -59,10 +59,10 @@ loop-i-preserved c =
 
 returns : tie.Need-returns invariant-loop-i decreases-loop-i
 returns c =
-    let args = c.before.before.args in
-    let inv = c.before.loop-i.invariant in
-    let e : c.before.loop-i.i ≡ c.before.before.args.t2.count = omega arith in
-    let found : (c.before.loop-i.empty || not (eqb c.before.loop-i.sum args.nodes)) ≡ sizes_wrong args.nodes (row c.before.loop-i.i (job_in args.t2)) =
+    let args = c.args in
+    let inv = c.loop-i.invariant in
+    let e : c.loop-i.i ≡ c.args.t2.count = omega arith in
+    let found : (c.loop-i.empty || not (eqb c.loop-i.sum args.nodes)) ≡ sizes_wrong args.nodes (row c.loop-i.i (job_in args.t2)) =
     λ k. inv.1 k || not (eqb (inv.2 k) args.nodes) in
     found ∙ ap (λ (n : ℕ). sizes_wrong args.nodes (row n (job_in args.t2))) e
 

@@ -38,14 +38,13 @@ draft c =
 
 -- what is known of it in the turn
 facts : (c : tie.In-loop-i invariant-loop-i decreases-loop-i)
-    → (c.before.loop-i.depth < 33) × (arity (item_on (given c.before.before) c.before.loop-i.i) ≤ c.before.loop-i.depth) × (c.before.loop-i.count ≤ 33)
+    → (c.loop-i.depth < 33) × (arity (item_on (given c.before.before) c.loop-i.i) ≤ c.loop-i.depth) × (c.loop-i.count ≤ 33)
 facts c =
-    let start = c.before.before in
-    let loop = c.before.loop-i in
-    let depth = draft_depth (behind (given start) loop.i) (draft c.before) loop.invariant.1 in (
-      omega (arith, depth, behind_half (given start) loop.i start.requires (omega arith)),
-      rw depth (start.requires.enough loop.i (omega arith)),
-      rw loop.invariant.1.count (free_few (given start) loop.i start.requires (omega arith)),
+    let loop = c.loop-i in
+    let depth = draft_depth (behind (given c.before.before) loop.i) (draft c.before) loop.invariant.1 in (
+      omega (arith, depth, behind_half (given c.before.before) loop.i c.requires (omega arith)),
+      rw depth (c.requires.enough loop.i (omega arith)),
+      rw loop.invariant.1.count (free_few (given c.before.before) loop.i c.requires (omega arith)),
     )
 
 loop-i-init : tie.Need-loop-i-init invariant-loop-i decreases-loop-i
@@ -60,29 +59,28 @@ arity_of-requires c κs = tt
 
 overflow_sub-base : tie.Need-overflow_sub-base invariant-loop-i decreases-loop-i
 overflow_sub-base c =
-    let inside = c.before.before in
-    rw (c.arity_of.ensures.0, ← (arity_set _ (place (given inside.before.before).set inside.before.loop-i.i))) (facts inside).1
+    rw (c.arity_of.ensures.0, ← (arity_set _ (place (given c.before.before.before.before.before).set c.loop-i.i))) (facts c.before.before.before).1
 
 overflow_cast-count : tie.Need-overflow_cast-count invariant-loop-i decreases-loop-i
-overflow_cast-count c = omega (arith, (facts c.before.before).2)
+overflow_cast-count c = omega (arith, (facts c.before.before.before).2)
 
 with_state-at-requires : tie.Need-with_state-at-requires invariant-loop-i decreases-loop-i
-with_state-at-requires c κs = omega (arith, (facts c.before.before).2)
+with_state-at-requires c κs = omega (arith, (facts c.before.before.before).2)
 
 offset_bounds-operands-base : tie.Need-offset_bounds-operands-base invariant-loop-i decreases-loop-i
-offset_bounds-operands-base c = omega (arith, (facts c.before.before.before).0)
+offset_bounds-operands-base c = omega (arith, (facts c.before.before.before.before).0)
 
 bounds-operands-base : tie.Need-bounds-operands-base invariant-loop-i decreases-loop-i
-bounds-operands-base c = omega (arith, (facts c.before.before.before).0)
+bounds-operands-base c = omega (arith, (facts c.before.before.before.before).0)
 
 overflow_add-newer : tie.Need-overflow_add-newer invariant-loop-i decreases-loop-i
-overflow_add-newer c = omega (arith, (facts c.before.before.before.before).0)
+overflow_add-newer c = omega (arith, (facts c.before.before.before.before.before).0)
 
 offset_bounds-operands-base-in-loop-i : tie.Need-offset_bounds-operands-base-in-loop-i invariant-loop-i decreases-loop-i
-offset_bounds-operands-base-in-loop-i c = omega (arith, (facts c.before.before.before.before).0)
+offset_bounds-operands-base-in-loop-i c = omega (arith, (facts c.before.before.before.before.before).0)
 
 bounds-operands-base-in-loop-i : tie.Need-bounds-operands-base-in-loop-i invariant-loop-i decreases-loop-i
-bounds-operands-base-in-loop-i c = omega (arith, (facts c.before.before.before.before).0)
+bounds-operands-base-in-loop-i c = omega (arith, (facts c.before.before.before.before.before).0)
 
 offset_bounds-sets-i : tie.Need-offset_bounds-sets-i invariant-loop-i decreases-loop-i
 offset_bounds-sets-i c = omega arith
@@ -94,26 +92,25 @@ take_item-made-requires : tie.Need-take_item-made-requires invariant-loop-i decr
 take_item-made-requires c κs = tt
 
 offset_bounds-operands-base-in-loop-i-2 : tie.Need-offset_bounds-operands-base-in-loop-i-2 invariant-loop-i decreases-loop-i
-offset_bounds-operands-base-in-loop-i-2 c = omega (arith, (facts c.before.before.before.before.before.before.before).0)
+offset_bounds-operands-base-in-loop-i-2 c = omega (arith, (facts c.before.before.before.before.before.before.before.before.before).0)
 
 bounds-operands-base-in-loop-i-2 : tie.Need-bounds-operands-base-in-loop-i-2 invariant-loop-i decreases-loop-i
-bounds-operands-base-in-loop-i-2 c = omega (arith, (facts c.before.before.before.before.before.before.before).0)
+bounds-operands-base-in-loop-i-2 c = omega (arith, (facts c.before.before.before.before.before.before.before.before.before).0)
 
 overflow_add-depth : tie.Need-overflow_add-depth invariant-loop-i decreases-loop-i
-overflow_add-depth c = omega (arith, (facts c.before.before.before.before.before.before.before).0)
+overflow_add-depth c = omega (arith, (facts c.before.before.before.before.before.before.before.before.before).0)
 
 overflow_add-count : tie.Need-overflow_add-count invariant-loop-i decreases-loop-i
 overflow_add-count c =
-    let inside = c.before.before.before.before.before.before.before.before in
-    let few : c.before.take_item-made.result.size ≤ 1 =
-    rw c.before.take_item-made.ensures (size_few (item_on (given inside.before.before) inside.before.loop-i.i) _ _ _) in
-    omega (arith, (facts inside).2)
+    let few : c.take_item-made.result.size ≤ 1 =
+    rw c.take_item-made.ensures (size_few (item_on (given c.before.before.before.before.before.before.before.before.before.before.before.before) c.loop-i.i) _ _ _) in
+    omega (arith, (facts c.before.before.before.before.before.before.before.before.before.before).2)
 
 gain-requires : tie.Need-gain-requires invariant-loop-i decreases-loop-i
-gain-requires c κs = ap length c.before.before.before.before.before.before.before.before.before.before.loop-i.invariant.1.after ∙ row_length _ 33
+gain-requires c κs = ap length c.loop-i.invariant.1.after ∙ row_length _ 33
 
 gain-requires-in-loop-i : tie.Need-gain-requires-in-loop-i invariant-loop-i decreases-loop-i
-gain-requires-in-loop-i c κs = ap length c.before.before.before.before.before.before.before.before.before.before.before.before.loop-i.invariant.1.holding ∙ row_length _ 33
+gain-requires-in-loop-i c κs = ap length c.loop-i.invariant.1.holding ∙ row_length _ 33
 
 overflow_add-i : tie.Need-overflow_add-i invariant-loop-i decreases-loop-i
 overflow_add-i c = omega arith
@@ -123,18 +120,13 @@ loop-i-smaller c = omega arith
 
 loop-i-preserved : tie.Need-loop-i-preserved invariant-loop-i decreases-loop-i
 loop-i-preserved c =
-    let taken = c.before.before.before.before.before in
-    let placed = taken.before.before.before.before in
-    let counted = placed.before in
-    let inside = counted.before.before in
-    let start = inside.before.before in
-    let t = given start in
-    let loop = inside.before.loop-i in
-    let n = ap (λ (k : ℕ). loop.depth - k) (counted.arity_of.ensures.0 ∙ sym (arity_set (place t.kind-1 loop.i) (place t.set loop.i))) in (
+    let t = given c.before.before.before.before.before.before.before.before.before.before.before.before.before.before.before.before in
+    let loop = c.loop-i in
+    let n = ap (λ (k : ℕ). loop.depth - k) (c.arity_of.ensures.0 ∙ sym (arity_set (place t.kind loop.i) (place t.set loop.i))) in (
       omega arith,
-      rw (behind_more t loop.i, c.before.before.gain.ensures, c.gain-in-loop-i.ensures)
-          (item_taken (draft inside.before) (facts inside).0 (item_on t loop.i) (behind t loop.i) (start.requires.enough loop.i inside.loop-i-test.true) loop.invariant.1
-          _ _ _ n placed.with_state-at.ensures taken.take_item-made.ensures),
+      rw (behind_more t loop.i, c.gain.ensures, c.gain-in-loop-i.ensures)
+          (item_taken (draft c.before.before.before.before.before.before.before.before.before.before.before.before.before.before.before) (facts c.before.before.before.before.before.before.before.before.before.before.before.before.before.before).0 (item_on t loop.i) (behind t loop.i) (c.requires.enough loop.i c.loop-i-test.true) loop.invariant.1
+          _ _ _ n c.with_state-at.ensures c.take_item-made.ensures),
     )
 
 bounds-operands-0 : tie.Need-bounds-operands-0 invariant-loop-i decreases-loop-i
@@ -148,13 +140,11 @@ only-requires c κs = tt
 
 returns : tie.Need-returns invariant-loop-i decreases-loop-i
 returns c =
-    let end = c.before.before.before.before in
-    let start = end.before in
-    let t = given start in
-    let e : c.before.before.before.before.loop-i.i ≡ c.before.before.before.before.before.args.total = omega arith in
-    let one : behind t end.loop-i.i ≡ pattern_of (items_on t) ∷ [] = ap (behind t) e ∙ sole (behind t t.count) start.requires.one in
-    table_made (draft end) (pattern_of (items_on t)) c.before.only.result c.before.only.ensures
-    (subst (λ (st : List Expression). DraftOf st (draft end)) one end.loop-i.invariant.1)
+    let t = given c.before.before.before.before.before in
+    let e : c.loop-i.i ≡ c.args.total = omega arith in
+    let one : behind t c.loop-i.i ≡ pattern_of (items_on t) ∷ [] = ap (behind t) e ∙ sole (behind t t.count) c.requires.one in
+    table_made (draft c.before.before.before.before) (pattern_of (items_on t)) c.only.result c.only.ensures
+    (subst (λ (st : List Expression). DraftOf st (draft c.before.before.before.before)) one c.loop-i.invariant.1)
 
 pub positions_of_spec : {M : Type 1} → statement M
 positions_of_spec =

@@ -20,21 +20,21 @@ take_repeat-requires : tie.Need-take_repeat-requires
 take_repeat-requires c κs = search rules
 
 returns-in-0 : tie.Need-returns-in-0
-returns-in-0 c = rw c.before.in_default.keys1 c.take_empty.ensures
+returns-in-0 c = rw c.in-0.keys1 c.take_empty.ensures
 
 returns-in-1 : tie.Need-returns-in-1
-returns-in-1 c = rw c.before.in_default.keys2 c.take_events.ensures
+returns-in-1 c = rw c.in-0.keys2 c.take_events.ensures
 
 returns-in-2 : tie.Need-returns-in-2
-returns-in-2 c = rw c.before.in_default.keys3 c.take_sequence.ensures
+returns-in-2 c = rw c.in-0.keys3 c.take_sequence.ensures
 
 returns-in-3 : tie.Need-returns-in-3
-returns-in-3 c = rw c.before.in_default.keys4 c.take_choice.ensures
+returns-in-3 c = rw c.in-0.keys4 c.take_choice.ensures
 
 returns-in_default : tie.Need-returns-in_default
 returns-in_default c =
-    let args = c.before.before.args in
-    let rest = c.before.in_default.rest in
+    let args = c.args in
+    let rest = c.in-0.rest in
     rw (item_repeat args.kind args.set rest.0.0.0.1 rest.0.0.1 rest.0.1 rest.1) c.take_repeat.ensures
 
 pub take_item_spec : {M : Type 1} → statement M

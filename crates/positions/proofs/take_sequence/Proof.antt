@@ -16,13 +16,13 @@ only-requires-2 c κs = search rules
 
 returns : tie.Need-returns
 returns c =
-    let args = c.before.before.before.before.before.before.args in
+    let args = c.args in
     ap₂
     (λ (begins ends : ℕ).
     making
     (record { null = args.older.null && args.newer.null; first = bit_or args.older.first begins; last = bit_or ends args.newer.last })
     args.older.last args.newer.first 0 0)
-    c.before.before.before.only.ensures c.before.only-2.ensures
+    c.only.ensures c.only-2.ensures
 
 pub take_sequence_spec : {M : Type 1} → statement M
 take_sequence_spec = tie.close (tie.spec only-requires only-requires-2 returns)

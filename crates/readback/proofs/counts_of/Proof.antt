@@ -14,8 +14,8 @@ overflow_cast-result c = search rules
 
 returns : tie.Need-returns
 returns c =
-    let d = c.before.before.args.d in
-    ap (λ (k : ℕ). d.jobs.count ∷ d.nodes ∷ d.steps ∷ d.calls ∷ d.accepts ∷ d.channels.count ∷ k ∷ d.items ∷ d.alphabet ∷ []) c.before.kind_number.ensures
+    let d = c.args.d in
+    ap (λ (k : ℕ). d.jobs.count ∷ d.nodes ∷ d.steps ∷ d.calls ∷ d.accepts ∷ d.channels.count ∷ k ∷ d.items ∷ d.alphabet ∷ []) c.kind_number.ensures
 
 pub counts_of_spec : {M : Type 1} → statement M
 counts_of_spec = tie.close (tie.spec kind_number-requires overflow_cast-result returns)

@@ -40,15 +40,15 @@ loop-k-smaller c = omega arith
 
 loop-k-preserved : tie.Need-loop-k-preserved invariant-loop-k decreases-loop-k
 loop-k-preserved c =
-    let sets = c.before.before.before.args.sets.now in
-    let loop = c.before.before.loop-k in
+    let sets = c.args.sets.now in
+    let loop = c.loop-k in
     (omega arith, rw loop.invariant.1 (padded_row_more 64 (place sets) loop.k (place sets loop.k) (omega arith) refl))
 
 returns : tie.Need-returns invariant-loop-k decreases-loop-k
 returns c =
-    let sets = c.before.before.args.sets.now in
-    let all : c.before.loop-k.k ≡ 64 = omega arith in
-    c.before.loop-k.invariant.1 ∙ ap (λ (n : ℕ). padded 64 (row n (place sets))) all ∙ padded_full 64 (place sets)
+    let sets = c.args.sets.now in
+    let all : c.loop-k.k ≡ 64 = omega arith in
+    c.loop-k.invariant.1 ∙ ap (λ (n : ℕ). padded 64 (row n (place sets))) all ∙ padded_full 64 (place sets)
 
 pub first_states_spec : {M : Type 1} → statement M
 first_states_spec =

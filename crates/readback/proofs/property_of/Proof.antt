@@ -23,13 +23,13 @@ use Rattle.readback.proofs.property_of.Tie as tie
 
 -- the bytes, and what the reader said of them, where it has no refusal
 abbrev bytes : tie.In-Accepted → List ℕ
-bytes c = c.before.before.before.before.before.before.args.plan.now
+bytes c = c.args.plan.now
 
 passed : (c : tie.In-Accepted) → first readable (bytes c) ≡ none
-passed c = read_accepted (bytes c) (ap (λ (r : PatternRead). r.reading-1.outcome) (sym c.before.before.before.read_pattern-read.ensures.0) ∙ c.enum_told-1.given.1)
+passed c = read_accepted (bytes c) (ap (λ (r : PatternRead). r.reading.outcome) (sym c.read_pattern-read.ensures.0) ∙ c.enum_told-1.given.1)
 
-read : (c : tie.In-Accepted) → c.before.before.before.read_pattern-read.result ≡ accepted (bytes c)
-read c = c.before.before.before.read_pattern-read.ensures.0 ∙ answer (bytes c) none (passed c)
+read : (c : tie.In-Accepted) → c.read_pattern-read.result ≡ accepted (bytes c)
+read c = c.read_pattern-read.ensures.0 ∙ answer (bytes c) none (passed c)
 
 read_pattern-read-requires : tie.Need-read_pattern-read-requires
 read_pattern-read-requires c κs = search rules
@@ -42,31 +42,29 @@ enum_told-1 c = search rules
 
 property_under-requires : tie.Need-property_under-requires
 property_under-requires c κs =
-    let e = c.before.before.before.before.before in
-    subst (λ (r : PatternRead). Postfix r.items-1) (sym (read e)) (plan_postfix (bytes e) (passed e))
+    subst (λ (r : PatternRead). Postfix r.items) (sym (read c.before.before.before.before.before)) (plan_postfix (bytes c.before.before.before.before.before) (passed c.before.before.before.before.before))
 
 returns-in-Refused : tie.Need-returns-in-Refused
 returns-in-Refused c =
-    let b = c.before.before.before.before.before.before.before.args.plan.now in
-    let n = c.before.found-1.given.0.0 in
-    let e = read_refused b n (ap (λ (r : PatternRead). r.reading-1.outcome) (sym c.before.before.before.before.read_pattern-read.ensures.0) ∙ c.before.found-1.given.1) in
+    let b = c.args.plan.now in
+    let n = c.found-1.given.0.0 in
+    let e = read_refused b n (ap (λ (r : PatternRead). r.reading.outcome) (sym c.read_pattern-read.ensures.0) ∙ c.found-1.given.1) in
     (sym (ap number_of (refused_early b n e)), sym (property_told b (some n) e _))
 
 returns-in-Accepted : tie.Need-returns-in-Accepted
 returns-in-Accepted c =
-    let e = c.before.before.before.before.before.before in
-    let b = bytes e in
-    let a = e.before.before.before.before.before.before.args in
+    let b = bytes c.before.before.before.before.before.before in
+    let a = c.args in
     let before = property a.values.now a.states.now a.moves.now in
     let alphabet = (plan_of b).alphabet in (
       c.property_under.ensures.0
-          ∙ ap (λ (r : PatternRead). limit (pattern_of (items_on r.items-1)) r.reading-1.plan.alphabet) (read e)
+          ∙ ap (λ (r : PatternRead). limit (pattern_of (items_on r.items)) r.reading.plan.alphabet) (read c.before.before.before.before.before.before)
           ∙ ap (λ (l : List Item). limit (pattern_of l) alphabet) (items_kept (items_of_plan b))
-          ∙ by_limit b (passed e),
+          ∙ by_limit b (passed c.before.before.before.before.before.before),
       c.property_under.ensures.1
-          ∙ ap (λ (r : PatternRead). property_under (pattern_of (items_on r.items-1)) r.reading-1.plan.alphabet before) (read e)
+          ∙ ap (λ (r : PatternRead). property_under (pattern_of (items_on r.items)) r.reading.plan.alphabet before) (read c.before.before.before.before.before.before)
           ∙ ap (λ (l : List Item). property_under (pattern_of l) alphabet before) (items_kept (items_of_plan b))
-          ∙ sym (property_told b none (passed e) before),
+          ∙ sym (property_told b none (passed c.before.before.before.before.before.before) before),
     )
 
 pub property_of_spec : {M : Type 1} → statement M

@@ -32,10 +32,10 @@ pattern c = pattern_of (items_on c.args.t1)
 abbrev start : tie.After-states_of-s → tie.Start
 start c = c.before.before.before.before.before.before.before.before
 
-of : (c : tie.After-states_of-s) → Of (pattern (start c)) c.before.before.before.before.positions_of-p.result
-of c = record { few = pattern_few (start c).args.t1 (start c).requires; table = c.before.before.before.before.positions_of-p.ensures }
+of : (c : tie.After-states_of-s) → Of (pattern (start c)) c.positions_of-p.result
+of c = record { few = pattern_few (start c).args.t1 (start c).requires; table = c.positions_of-p.ensures }
 
-ends_are : (c : tie.After-states_of-s) → c.before.before.before.before.positions_of-p.result.last ≡ final (pattern (start c))
+ends_are : (c : tie.After-states_of-s) → c.positions_of-p.result.last ≡ final (pattern (start c))
 ends_are c = ap (λ (p : Positions). p.last) (of c).table
 
 -- its states, where they are few enough
@@ -46,7 +46,7 @@ abbrev Fit : tie.After-states_of-s → Type 0
 Fit c = (es : List ℕ) × (states_of (pattern (start c)) (start c).args.alphabet ≡ some es) × (c.states_of-s.result ≡ set_table es)
 
 fit : (c : tie.Then-s) → Fit c.before
-fit c = fits_some (states_of (pattern (start c.before)) (start c.before).args.alphabet) c.before.states_of-s.result (states_are c.before) c.if-s.true
+fit c = fits_some (states_of (pattern (start c.before)) (start c.before).args.alphabet) c.states_of-s.result (states_are c.before) c.if-s.true
 
 few : (c : tie.After-states_of-s) → Fit c → c.states_of-s.result.count ≤ 64
 few c f = omega (arith, kept_count f.0 c.states_of-s.result f.2, (states_some (pattern (start c)) (start c).args.alphabet f.0 f.1).1)
@@ -60,51 +60,46 @@ positions_of-p-requires c κs = search rules
 
 states_of-s-requires : tie.Need-states_of-s-requires
 states_of-s-requires c κs =
-    let p = c.before.before.before in
-    (_, (_, record { few = pattern_few p.before.before.before.before.args.t1 p.before.before.before.before.requires; table = p.positions_of-p.ensures }))
+    (_, (_, record { few = pattern_few c.args.t1 c.requires; table = c.positions_of-p.ensures }))
 
 accepting_of-accepting-requires : tie.Need-accepting_of-accepting-requires
 accepting_of-accepting-requires c κs =
-    let t = c.before.before in
-    let f = fit t in
-    (few t.before f, (_, f.0, ends_are t.before, kept_fits f.0 t.before.states_of-s.result f.2))
+    let f = fit c.before in
+    (few c.before.before f, (_, f.0, ends_are c.before.before, kept_fits f.0 c.states_of-s.result f.2))
 
 first_states-requires : tie.Need-first_states-requires
 first_states-requires c κs = search rules
 
 moves_of-requires : tie.Need-moves_of-requires
 moves_of-requires c κs =
-    let t = c.before.before.before.before.before.before.before.before.before.before.before.before in
-    let f = fit t in
-    let s = t.before.states_of-s.result in (
-      few t.before f,
-      states_apart (pattern (start t.before)) (start t.before).args.alphabet f.0 s f.1 f.2,
-      (_, (_, f.0, of t.before, kept_fits f.0 s f.2)),
+    let f = fit c.before.before.before.before.before.before.before.before in
+    let s = c.states_of-s.result in (
+      few c.before.before.before.before.before.before.before.before.before f,
+      states_apart (pattern (start c.before.before.before.before.before.before.before.before.before)) (start c.before.before.before.before.before.before.before.before.before).args.alphabet f.0 s f.1 f.2,
+      (_, (_, f.0, of c.before.before.before.before.before.before.before.before.before, kept_fits f.0 s f.2)),
     )
 
 returns-then-s : tie.Need-returns-then-s
 returns-then-s c =
-    let t = c.before.before.before.before.before.before.before.before.before.before.before.before.before in
-    let f = fit t in
+    let f = fit c.before.before.before.before.before.before.before.before.before in
     let es = f.0 in
-    let s = t.before.states_of-s.result in
-    let r = pattern (start t.before) in
-    let alphabet = (start t.before).args.alphabet in
+    let s = c.states_of-s.result in
+    let r = pattern (start c.before.before.before.before.before.before.before.before.before.before) in
+    let alphabet = (start c.before.before.before.before.before.before.before.before.before.before).args.alphabet in
     let grows = kept_fits es s f.2 in
-    let accepts = c.before.before.before.before.before.before.before.before.before.before.accepting_of-accepting.ensures r es (ends_are t.before) grows in
+    let accepts = c.accepting_of-accepting.ensures r es (ends_are c.before.before.before.before.before.before.before.before.before.before) grows in
     let places : place s.sets ≡ place es = ap (λ (x : States). place x.sets) f.2 ∙ padded_places 96 es in
-    let states = c.before.before.before.before.before.before.first_states.ensures ∙ ap (row 64) places in
-    let moves : c.Moves-of.result ≡ table_of r alphabet es = c.Moves-of.ensures r es _ (of t.before) grows in (
+    let states = c.first_states.ensures ∙ ap (row 64) places in
+    let moves : c.Moves-of.result ≡ table_of r alphabet es = c.Moves-of.ensures r es _ (of c.before.before.before.before.before.before.before.before.before.before) grows in (
       sym (ap limit_of f.1),
       (λ i. property (kept_count es s f.2 i ∷ accepts i ∷ []) (states i) (moves i))
-          ∙ sym (ap (λ (o : Option (List ℕ)). property_with r alphabet o (before (start t.before))) f.1),
+          ∙ sym (ap (λ (o : Option (List ℕ)). property_with r alphabet o (before (start c.before.before.before.before.before.before.before.before.before.before))) f.1),
     )
 
 returns-else-s : tie.Need-returns-else-s
 returns-else-s c =
-    let s = c.before in
-    let over = fits_none (states_of (pattern (start s)) (start s).args.alphabet) s.states_of-s.result (states_are s) c.if-s.false in
-    (sym (ap limit_of over), sym (ap (λ (o : Option (List ℕ)). property_with (pattern (start s)) (start s).args.alphabet o (before (start s))) over))
+    let over = fits_none (states_of (pattern (start c.before)) (start c.before).args.alphabet) c.states_of-s.result (states_are c.before) c.if-s.false in
+    (sym (ap limit_of over), sym (ap (λ (o : Option (List ℕ)). property_with (pattern (start c.before)) (start c.before).args.alphabet o (before (start c.before))) over))
 
 pub property_under_spec : {M : Type 1} → statement M
 property_under_spec =

@@ -32,14 +32,14 @@ loop-k-smaller c = omega arith
 
 loop-k-preserved : tie.Need-loop-k-preserved invariant-loop-k decreases-loop-k
 loop-k-preserved c =
-    let args = c.before.before.args in
-    (omega arith, rw c.before.loop-k.invariant.1 (own_more (take args.at args.owner.now) args.at c.before.loop-k.k args.job c.before.before.requires.2 (omega arith)))
+    let args = c.args in
+    (omega arith, rw c.loop-k.invariant.1 (own_more (take args.at args.owner.now) args.at c.loop-k.k args.job c.requires.2 (omega arith)))
 
 returns : tie.Need-returns invariant-loop-k decreases-loop-k
 returns c =
-    let args = c.before.before.args in
-    let e : c.before.loop-k.k ≡ c.before.before.args.size = omega arith in
-    c.before.loop-k.invariant.1 ∙ ap (λ (k : ℕ). padded 256 (take args.at args.owner.now ++ replicate k args.job)) e
+    let args = c.args in
+    let e : c.loop-k.k ≡ c.args.size = omega arith in
+    c.loop-k.invariant.1 ∙ ap (λ (k : ℕ). padded 256 (take args.at args.owner.now ++ replicate k args.job)) e
 
 pub own_spec : {M : Type 1} → statement M
 own_spec =

@@ -23,19 +23,19 @@ unfolding padded row owners_from
 loop-i-init c = (omega arith, refl, sym (total_none (job_in c.args.t1)))
 
 -- what stands before the nodes of this turn's job
-passed : (c : tie.In-loop-i invariant-loop-i decreases-loop-i) → take c.before.loop-i.at c.before.loop-i.owner ≡ owners (row c.before.loop-i.i (job_in c.before.before.args.t1))
+passed : (c : tie.In-loop-i invariant-loop-i decreases-loop-i) → take c.loop-i.at c.loop-i.owner ≡ owners (row c.loop-i.i (job_in c.args.t1))
 passed c =
-    let loop = c.before.loop-i in
-    let xs = owners (row c.before.loop-i.i (job_in c.before.before.args.t1)) in
-    ap (take loop.at) loop.invariant.1 ∙ take_padded xs loop.at (owners_total (row loop.i (job_in c.before.before.args.t1)) ∙ sym loop.invariant.2)
+    let loop = c.loop-i in
+    let xs = owners (row c.loop-i.i (job_in c.args.t1)) in
+    ap (take loop.at) loop.invariant.1 ∙ take_padded xs loop.at (owners_total (row loop.i (job_in c.args.t1)) ∙ sym loop.invariant.2)
 
 -- and its nodes are some of all
-room : (c : tie.In-loop-i invariant-loop-i decreases-loop-i) → c.before.loop-i.at + (job_in c.before.before.args.t1 c.before.loop-i.i).size ≤ 256
+room : (c : tie.In-loop-i invariant-loop-i decreases-loop-i) → c.loop-i.at + (job_in c.args.t1 c.loop-i.i).size ≤ 256
 room c =
-    let g = job_in c.before.before.args.t1 in
-    let i = c.before.loop-i.i in
-    let most = total_le g (i + 1) c.before.before.args.t1.count (omega arith) in
-    omega (arith, total_more g i, c.before.before.requires.1, c.before.loop-i.invariant.2)
+    let g = job_in c.args.t1 in
+    let i = c.loop-i.i in
+    let most = total_le g (i + 1) c.args.t1.count (omega arith) in
+    omega (arith, total_more g i, c.requires.1, c.loop-i.invariant.2)
 
 offset_bounds-jobs-i : tie.Need-offset_bounds-jobs-i invariant-loop-i decreases-loop-i
 offset_bounds-jobs-i c = omega arith
@@ -51,16 +51,15 @@ overflow_cast-i c = omega arith
 
 own-requires : tie.Need-own-requires invariant-loop-i decreases-loop-i
 own-requires c κs =
-    let e = c.before.before.before in
-    let loop = e.before.loop-i in
-    let jobs = row loop.i (job_in e.before.before.args.t1) in (
-      omega (arith, room e, c.before.wide-size.ensures.0),
-      loop.invariant.1 ∙ ap (padded 256) (sym (passed e)),
-      ap length (passed e) ∙ owners_total jobs ∙ sym loop.invariant.2,
+    let loop = c.loop-i in
+    let jobs = row loop.i (job_in c.args.t1) in (
+      omega (arith, room c.before.before.before, c.wide-size.ensures.0),
+      loop.invariant.1 ∙ ap (padded 256) (sym (passed c.before.before.before)),
+      ap length (passed c.before.before.before) ∙ owners_total jobs ∙ sym loop.invariant.2,
     )
 
 overflow_add-at : tie.Need-overflow_add-at invariant-loop-i decreases-loop-i
-overflow_add-at c = omega (arith, room c.before.before.before.before, c.before.before.wide-size.ensures.0)
+overflow_add-at c = omega (arith, room c.before.before.before.before, c.wide-size.ensures.0)
 
 overflow_add-i : tie.Need-overflow_add-i invariant-loop-i decreases-loop-i
 overflow_add-i c = omega arith
@@ -70,12 +69,11 @@ loop-i-smaller c = omega arith
 
 loop-i-preserved : tie.Need-loop-i-preserved invariant-loop-i decreases-loop-i
 loop-i-preserved c =
-    let e = c.before.before.before.before in
-    let loop = e.before.loop-i in
-    let g = job_in e.before.before.args.t1 in
-    let size = c.before.before.wide-size.ensures.0 in (
+    let loop = c.loop-i in
+    let g = job_in c.args.t1 in
+    let size = c.wide-size.ensures.0 in (
       omega arith,
-      c.own.ensures ∙ ap (λ xs. padded 256 (xs ++ replicate c.before.before.wide-size.result loop.i)) (passed e)
+      c.own.ensures ∙ ap (λ xs. padded 256 (xs ++ replicate c.wide-size.result loop.i)) (passed c.before.before.before.before)
           ∙ ap (λ (n : ℕ). padded 256 (owners (row loop.i g) ++ replicate n loop.i)) size
           ∙ ap (padded 256) (sym (owners_more g loop.i)),
       omega (arith, loop.invariant.2, size, total_more g loop.i),
@@ -83,8 +81,8 @@ loop-i-preserved c =
 
 returns : tie.Need-returns invariant-loop-i decreases-loop-i
 returns c =
-    let e : c.before.loop-i.i ≡ c.before.before.args.t1.count = omega arith in
-    c.before.loop-i.invariant.1 ∙ ap (λ (n : ℕ). padded 256 (owners (row n (job_in c.before.before.args.t1)))) e
+    let e : c.loop-i.i ≡ c.args.t1.count = omega arith in
+    c.loop-i.invariant.1 ∙ ap (λ (n : ℕ). padded 256 (owners (row n (job_in c.args.t1)))) e
 
 pub owners_of_spec : {M : Type 1} → statement M
 owners_of_spec =

@@ -10,8 +10,8 @@ use Rattle.reader.proofs.read_plan.Statement.{statement}
 use Rattle.reader.proofs.read_plan.Tie as tie
 
 -- the bytes passed refusals 1 to 4
-passed : (c : tie.In-Accepted) → first framing c.before.before.before.before.args.plan.now ≡ none
-passed c = outcome_accepted (first framing c.before.before.before.before.args.plan.now) (sym c.before.before.framed-found.ensures ∙ c.enum_told-1.given.1)
+passed : (c : tie.In-Accepted) → first framing c.args.plan.now ≡ none
+passed c = outcome_accepted (first framing c.args.plan.now) (sym c.framed-found.ensures ∙ c.enum_told-1.given.1)
 
 framed-found-requires : tie.Need-framed-found-requires
 framed-found-requires c κs = search rules
@@ -26,20 +26,19 @@ enum_told-1 : tie.Need-enum_told-1
 enum_told-1 c = search rules
 
 read_sections-requires : tie.Need-read_sections-requires
-read_sections-requires c κs = (passed c.before, c.before.before.before.before.before.requires)
+read_sections-requires c κs = (passed c.before, c.requires)
 
 returns-in-Refused : tie.Need-returns-in-Refused
 returns-in-Refused c =
-    let b = c.before.before.before.before.before.before.args.plan.now in
-    let found = c.before.before.found-1.given in
-    let refused = outcome_refused (first framing b) found.0.0 (sym c.before.before.before.before.framed-found.ensures ∙ found.1) in
+    let b = c.args.plan.now in
+    let found = c.found-1.given in
+    let refused = outcome_refused (first framing b) found.0.0 (sym c.framed-found.ensures ∙ found.1) in
     (c.turned_down.ensures ∙ sym (reading_is b _ (order_refused b found.0.0 refused)), words_are b _ _ _ refused refl)
 
 returns-in-Accepted : tie.Need-returns-in-Accepted
 returns-in-Accepted c =
-    let told = c.before.before in
-    let b = told.before.before.before.before.args.plan.now in
-    (c.read_sections.ensures.0 ∙ sym (reading_is b _ (order_past b (passed told))), words_are b _ _ _ (passed told) c.read_sections.ensures.1)
+    let b = c.args.plan.now in
+    (c.read_sections.ensures.0 ∙ sym (reading_is b _ (order_past b (passed c.before.before))), words_are b _ _ _ (passed c.before.before) c.read_sections.ensures.1)
 
 pub read_plan_spec : {M : Type 1} → statement M
 read_plan_spec =

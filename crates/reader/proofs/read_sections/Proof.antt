@@ -38,50 +38,45 @@ sized f = (owned f).before.before
 abbrev decoded : tie.After-bounded-found → tie.After-decode-d
 decoded f = (sized f).before
 
-read : (r : tie.After-decode-d) → Read (bytes r) r.before.before.read_head-h.result r.decode-d.result (begun r).args.words.now r.decode-d.new.1.1.0
-read r = record { passed = (begun r).requires.0; head = r.before.before.read_head-h.ensures; tables = r.decode-d.ensures.0; arcs = r.decode-d.ensures.1 }
+read : (r : tie.After-decode-d) → Read (bytes r) r.read_head-h.result r.decode-d.result (begun r).args.words.now r.decode-d.new.1.1.0
+read r = record { passed = (begun r).requires.0; head = r.read_head-h.ensures; tables = r.decode-d.ensures.0; arcs = r.decode-d.ensures.1 }
 
 -- refusals 6, 21, and 7 to 9 go by their tests
 bound : (f : tie.After-bounded-found) → outcome_of (first shape (plan_of (bytes (decoded f)))) ≡ f.bounded-found.result
 bound f =
     let r = read (decoded f) in
-    ends_next r (sized f).sizes_wrong.ensures (owned f).before.if-sizes_wrong.false _ (f.bounded-found.ensures (plan_of (bytes (decoded f))) (lent_of r (owned f).owners_of-owner.ensures))
+    ends_next r (sized f).sizes-wrong.ensures (owned f).before.if1.false _ (f.bounded-found.ensures (plan_of (bytes (decoded f))) (lent_of r (owned f).owners_of.ensures))
 
 whole : (b : List ℕ) (plan : Decoded) (owner : List ℕ) (pattern : ℕ) → plan ≡ decoded_of (plan_of b) → owner ≡ padded 256 (owners (plan_of b).jobs)
     → pattern ≡ pattern_at (head_of b) → ◌≡◌ {A = Reading} (record { outcome = Accepted; plan = plan; owner = owner; pattern = pattern }) (accepted b)
 whole b plan owner pattern p q r = λ i. record { outcome = Accepted; plan = p i; owner = q i; pattern = r i }
 
 read_head-h-requires : tie.Need-read_head-h-requires
-read_head-h-requires c κs = omega (arith, (framed c.before.args.plan.now c.before.requires.0).long)
+read_head-h-requires c κs = omega (arith, (framed c.args.plan.now c.requires.0).long)
 
 decode-d-requires : tie.Need-decode-d-requires
 decode-d-requires c κs =
-    let s = c.before.before.before in
-    let b = s.args.plan.now in
-    (rw c.before.read_head-h.ensures (readable b (framed b s.requires.0)), s.requires.1)
+    let b = c.args.plan.now in
+    (rw c.read_head-h.ensures (readable b (framed b c.requires.0)), c.requires.1)
 
 sizes_wrong-requires : tie.Need-sizes_wrong-requires
-sizes_wrong-requires c κs = jobs_few (read c)
+sizes_wrong-requires c κs = jobs_few (read c.before)
 
 turned_down-requires : tie.Need-turned_down-requires
 turned_down-requires c κs = search rules
 
 returns-then-sizes_wrong : tie.Need-returns-then-sizes_wrong
 returns-then-sizes_wrong c =
-    let w = c.before.before in
-    let r = w.before in
-    (c.turned_down.ensures ∙ sym (ap (λ (o : Option ℕ). answered o (bytes r)) (sizes_refused (read r) w.sizes_wrong.ensures c.before.if-sizes_wrong.true)), worded (read r))
+    (c.turned_down.ensures ∙ sym (ap (λ (o : Option ℕ). answered o (bytes c.before.before.before.before)) (sizes_refused (read c.before.before.before.before) c.sizes_wrong.ensures c.if-sizes_wrong.true)), worded (read c.before.before.before.before))
 
 owners_of-owner-requires : tie.Need-owners_of-owner-requires
 owners_of-owner-requires c κs =
-    let r = read c.before.before in
-    (jobs_few r, nodes_few r c.before.sizes_wrong.ensures c.if-sizes_wrong.false)
+    let r = read c.before.before.before.before in
+    (jobs_few r, nodes_few r c.sizes_wrong.ensures c.if-sizes_wrong.false)
 
 bounded-found-requires : tie.Need-bounded-found-requires
 bounded-found-requires c κs =
-    let o = c.before.before in
-    let r = o.before.before.before in
-    (plan_of (bytes r), lent_of (read r) o.owners_of-owner.ensures)
+    (plan_of (bytes c.before.before.before.before.before.before), lent_of (read c.before.before.before.before.before.before) c.owners_of-owner.ensures)
 
 enum_known-found : tie.Need-enum_known-found
 enum_known-found c = search rules
@@ -102,18 +97,16 @@ overflow_add-result c = omega (arith, c.end_of_lem.ensures, counts (read (decode
 
 returns-in-Refused : tie.Need-returns-in-Refused
 returns-in-Refused c =
-    let f = c.before.before.before.before in
-    let b = bytes (decoded f) in
-    let found = c.before.before.found-1.given in
-    (c.turned_down-in-Refused.ensures ∙ sym (ap (λ (o : Option ℕ). answered o b) (outcome_refused (first shape (plan_of b)) found.0.0 (bound f ∙ found.1))), worded (read (decoded f)))
+    let b = bytes (decoded c.before.before.before.before) in
+    let found = c.found-1.given in
+    (c.turned_down-in-Refused.ensures ∙ sym (ap (λ (o : Option ℕ). answered o b) (outcome_refused (first shape (plan_of b)) found.0.0 (bound c.before.before.before.before ∙ found.1))), worded (read (decoded c.before.before.before.before)))
 
 returns-in-Accepted : tie.Need-returns-in-Accepted
 returns-in-Accepted c =
-    let f = c.before.before.before in
-    let b = bytes (decoded f) in
-    let r = read (decoded f) in
-    let none-applies = outcome_accepted (first shape (plan_of b)) (bound f ∙ c.before.enum_told-1.given.1) in
-    (whole b _ _ _ (kept r) (owners_kept r (owned f).owners_of-owner.ensures) (starts r _ c.end_of_lem.ensures) ∙ sym (ap (λ (o : Option ℕ). answered o b) none-applies), worded r)
+    let b = bytes (decoded c.before.before.before) in
+    let r = read (decoded c.before.before.before) in
+    let none-applies = outcome_accepted (first shape (plan_of b)) (bound c.before.before.before ∙ c.enum_told-1.given.1) in
+    (whole b _ _ _ (kept r) (owners_kept r (owned c.before.before.before).owners_of.ensures) (starts r _ c.end_of_lem.ensures) ∙ sym (ap (λ (o : Option ℕ). answered o b) none-applies), worded r)
 
 pub read_sections_spec : {M : Type 1} → statement M
 read_sections_spec =

@@ -11,7 +11,7 @@ blank-requires c κs = search rules
 
 returns : tie.Need-returns
 unfolding padded
-returns c = λ i. record { outcome = Refused c.before.args.n; plan = c.blank.ensures i; owner = padded 256 []; pattern = 0 }
+returns c = λ i. record { outcome = Refused c.args.n; plan = c.blank.ensures i; owner = padded 256 []; pattern = 0 }
 
 pub turned_down_spec : {M : Type 1} → statement M
 turned_down_spec = tie.close (tie.spec blank-requires returns)

@@ -11,21 +11,21 @@ use borrow.Author.Rules.{rules}
 use Rattle.readers.proofs.closed.Statement.{statement}
 use Rattle.readers.proofs.closed.Tie as tie
 
-found : (c : tie.Then-is_at) → let a = c.before.before.before.args in starts_with closing (drop a.at a.text.now) ≡ true
-found c = sym c.before.is_at.ensures ∙ c.if-is_at.true
+found : (c : tie.Then-is_at) → let a = c.args in starts_with closing (drop a.at a.text.now) ≡ true
+found c = sym c.is_at.ensures ∙ c.if-is_at.true
 
-within : (c : tie.Then-is_at) → c.before.before.before.args.at < length c.before.before.before.args.text.now
-within c = starts_within closing c.before.before.before.args.text.now c.before.before.before.args.at (found c)
+within : (c : tie.Then-is_at) → c.args.at < length c.args.text.now
+within c = starts_within closing c.args.text.now c.args.at (found c)
 
 is_at-requires : tie.Need-is_at-requires
 is_at-requires c κs = search rules
 
 overflow_add-at : tie.Need-overflow_add-at
-overflow_add-at c = omega (arith, within c, c.before.before.before.requires.bytes)
+overflow_add-at c = omega (arith, within c, c.requires.bytes)
 
 stars-k-requires : tie.Need-stars-k-requires
 stars-k-requires c κs =
-    let pre = c.before.before.before.before.requires in
+    let pre = c.requires in
     (record { bytes = pre.bytes; places = pre.places; fewer = omega (arith, pre.fewer) }, omega (arith, within c.before))
 
 overflow_add-result : tie.Need-overflow_add-result
@@ -39,12 +39,11 @@ overflow_add-result-then-is_at-2 c = search rules
 
 returns-then-is_at : tie.Need-returns-then-is_at
 returns-then-is_at c =
-    let then = c.before.before in
     let starred = c.stars-k.ensures in
-    (found then, omega arith, starred.within, omega arith, starred.places, starred.goes)
+    (found c.before.before, omega arith, starred.within, omega arith, starred.places, starred.goes)
 
 returns-else-is_at : tie.Need-returns-else-is_at
-returns-else-is_at c = sym c.before.is_at.ensures ∙ c.if-is_at.false
+returns-else-is_at c = sym c.is_at.ensures ∙ c.if-is_at.false
 
 pub closed_spec : {M : Type 1} → statement M
 closed_spec =

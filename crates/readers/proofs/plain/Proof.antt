@@ -16,10 +16,10 @@ use Rattle.readers.proofs.plain.Tie as tie
 abbrev start : tie.In-Next → tie.Start
 start c = c.before.before.before.before.before
 
-ended : (c : tie.In-Next) → let a = (start c).args in Ends (leaf (drop a.at a.text.now)) a.text.now a.at (Next c.before.leaf-1.given.0.0)
+ended : (c : tie.In-Next) → let a = (start c).args in Ends (leaf (drop a.at a.text.now)) a.text.now a.at (Next c.leaf-1.given.0.0)
 ended c =
     let a = (start c).args in
-    subst (λ (e : End). Ends (leaf (drop a.at a.text.now)) a.text.now a.at e) c.before.leaf-1.given.1 c.before.before.before.leaf_end-leaf.ensures
+    subst (λ (e : End). Ends (leaf (drop a.at a.text.now)) a.text.now a.at e) c.leaf-1.given.1 c.leaf_end-leaf.ensures
 
 room : (c : tie.In-Next) → (start c).args.count < length (start c).args.order.now
 room c = omega (arith, (ended c).2, (ended c).3, (start c).requires.0.bytes, (start c).requires.0.places, (start c).requires.0.fewer)
@@ -37,16 +37,16 @@ overflow_cast-order : tie.Need-overflow_cast-order
 overflow_cast-order c = omega (arith, (ended c).2, (ended c).3, (start c).requires.0.bytes)
 
 bounds-order-count : tie.Need-bounds-order-count
-bounds-order-count c = omega (arith, (ended c).2, (ended c).3, (start c).requires.0.bytes, (start c).requires.0.fewer)
+bounds-order-count c = omega (arith, (ended c.before).2, (ended c.before).3, (start c.before).requires.0.bytes, (start c.before).requires.0.fewer)
 
 overflow_add-count : tie.Need-overflow_add-count
-overflow_add-count c = omega (arith, (ended c.before).2, (ended c.before).3, (start c.before).requires.0.bytes, (start c.before).requires.0.fewer)
+overflow_add-count c = omega (arith, (ended c.before.before).2, (ended c.before.before).3, (start c.before.before).requires.0.bytes, (start c.before.before).requires.0.fewer)
 
 stars-k-requires : tie.Need-stars-k-requires
 stars-k-requires c κs =
-    let a = (start c.before).args in
-    let pre = (start c.before).requires.0 in
-    let end = ended c.before in (
+    let a = (start c.before.before).args in
+    let pre = (start c.before.before).requires.0 in
+    let end = ended c.before.before in (
       record { bytes = pre.bytes; places = length-set a.order.now a.count a.at ∙ pre.places; fewer = omega (arith, end.2, pre.fewer) },
       end.3,
     )
@@ -59,19 +59,16 @@ overflow_add-result-in-Next c = overflow_add-count c.before
 
 overflow_add-result-in-Next-2 : tie.Need-overflow_add-result-in-Next-2
 overflow_add-result-in-Next-2 c =
-    let then = c.before.before in
-    omega (arith, (ended then).2, c.stars-k.ensures.within, (start then).requires.0.bytes, (start then).requires.0.fewer)
+    omega (arith, (ended c.before.before.before).2, c.stars-k.ensures.within, (start c.before.before.before).requires.0.bytes, (start c.before.before.before).requires.0.fewer)
 
 returns-in-Broken : tie.Need-returns-in-Broken
 returns-in-Broken c =
-    let a = c.before.before.before.before in
-    unfit a.requires.1 (subst (λ (e : End). Ends (leaf (drop a.args.at a.args.text.now)) a.args.text.now a.args.at e) c.enum_told-1.given.1 c.before.before.leaf_end-leaf.ensures)
+    unfit c.requires.1 (subst (λ (e : End). Ends (leaf (drop c.args.at c.args.text.now)) c.args.text.now c.args.at e) c.enum_told-1.given.1 c.leaf_end-leaf.ensures)
 
 returns-in-Next : tie.Need-returns-in-Next
 returns-in-Next c =
-    let then = c.before.before in
-    let a = (start then).args in
-    let end = ended then in
+    let a = (start c.before.before.before).args in
+    let end = ended c.before.before.before in
     let starred = c.stars-k.ensures in
     let so = starred.goes end.0 in
     record {
@@ -81,7 +78,7 @@ returns-in-Next c =
       within = starred.within;
       few = omega (arith, end.2);
       places = starred.places;
-      items = λ n. so.2.items n (items_by n a.text.now a.order.now a.count) (leaf_placed n a.text.now a.order.now a.count a.at end.0 _ (room then) end.1);
+      items = λ n. so.2.items n (items_by n a.text.now a.order.now a.count) (leaf_placed n a.text.now a.order.now a.count a.at end.0 _ (room c.before.before.before) end.1);
     }
 
 pub plain_spec : {M : Type 1} → statement M

@@ -24,16 +24,16 @@ decreases-loop-order text from order₀ already k₀ order k = length text - (fr
 
 loop-order-init : tie.Need-loop-order-init invariant-loop-order decreases-loop-order
 loop-order-init c =
-    let args = c.before.args in
+    let args = c.args in
     let e : args.from + 0 ≡ args.from = omega arith in
     let n : args.already + 0 ≡ args.already = omega arith in (
-      omega (arith, c.before.requires.1),
-      c.before.requires.0.places,
+      omega (arith, c.requires.1),
+      c.requires.0.places,
       λ t. (t, ap (λ (i : ℕ). stars t (drop i args.text.now)) (sym e), record { items = λ a pre q. rw n q }),
     )
 
 overflow_add-from : tie.Need-overflow_add-from invariant-loop-order decreases-loop-order
-overflow_add-from c = omega (arith, c.loop-order.invariant.0, c.before.before.requires.0.bytes)
+overflow_add-from c = omega (arith, c.loop-order.invariant.0, c.requires.0.bytes)
 
 is_at-requires : tie.Need-is_at-requires invariant-loop-order decreases-loop-order
 is_at-requires c κs = search rules
@@ -43,10 +43,10 @@ module _ (c : tie.In-loop-order invariant-loop-order decreases-loop-order) where
   start = c.before.before.before.before
 
   abbrev here : ℕ
-  here = start.args.from + c.before.before.loop-order.k
+  here = start.args.from + c.before.before.loop.k
 
   star : starts_with asterisk (drop here start.args.text.now) ≡ true
-  star = sym c.before.is_at.ensures ∙ c.loop-order-test.true
+  star = sym c.before.is_at.ensures ∙ c.if1.true
 
   within : here < length start.args.text.now
   within = starts_within asterisk start.args.text.now here star
@@ -78,7 +78,7 @@ loop-order-smaller c = omega (arith, within c)
 loop-order-preserved : tie.Need-loop-order-preserved invariant-loop-order decreases-loop-order
 loop-order-preserved c =
     let args = (start c).args in
-    let loop = c.before.before.loop-order in
+    let loop = c.loop-order in
     let n = args.already + loop.k in
     let e : here c + 1 ≡ args.from + (loop.k + 1) = omega arith in
     let m : n + 1 ≡ args.already + (loop.k + 1) = omega arith in
@@ -95,9 +95,9 @@ loop-order-preserved c =
 
 returns : tie.Need-returns invariant-loop-order decreases-loop-order
 returns c =
-    let args = c.before.before.before.before.args in
-    let loop = c.before.before.loop-order in
-    let none = sym c.before.is_at.ensures ∙ c.loop-order-test.false in
+    let args = c.args in
+    let loop = c.loop-order in
+    let none = sym c.is_at.ensures ∙ c.loop-order-test.false in
     record {
       places = loop.invariant.1;
       within = loop.invariant.0;

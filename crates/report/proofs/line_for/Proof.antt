@@ -14,9 +14,9 @@ line_of-requires c κs = search rules
 
 returns : tie.Need-returns
 returns c = record {
-  answer = c.before.before.judge-answer.result;
+  answer = c.judge-answer.result;
   row = _;
-  judged = c.before.before.judge-answer.ensures;
+  judged = c.judge-answer.ensures;
   printed = c.Line-of.ensures.0;
   fits = c.Line-of.ensures.1;
 }

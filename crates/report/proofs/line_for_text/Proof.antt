@@ -14,9 +14,9 @@ line_of-requires c κs = search rules
 
 returns : tie.Need-returns
 returns c = record {
-  answer = c.before.before.judge_text-told.result;
+  answer = c.judge_text-told.result;
   row = _;
-  judged = c.before.before.judge_text-told.ensures;
+  judged = c.judge_text-told.ensures;
   printed = c.Line-of.ensures.0;
   fits = c.Line-of.ensures.1;
 }

@@ -29,13 +29,13 @@ field-requires-8 c κs = search rules
 
 returns : tie.Need-returns
 returns c = λ i. record {
-  jobs = c.before.before.before.before.before.before.before.field.ensures i;
-  nodes = c.before.before.before.before.before.before.field-2.ensures i;
-  steps = c.before.before.before.before.before.field-3.ensures i;
-  calls = c.before.before.before.before.field-4.ensures i;
-  accepts = c.before.before.before.field-5.ensures i;
-  channels = c.before.before.field-6.ensures i;
-  kind = c.before.field-7.ensures i;
+  jobs = c.field.ensures i;
+  nodes = c.field-2.ensures i;
+  steps = c.field-3.ensures i;
+  calls = c.field-4.ensures i;
+  accepts = c.field-5.ensures i;
+  channels = c.field-6.ensures i;
+  kind = c.field-7.ensures i;
   items = c.field-8.ensures i;
 }
 

@@ -20,8 +20,8 @@ write_all-requires-2 c κs = search rules
 
 slice_bounds-bytes-end : tie.Need-slice_bounds-bytes-end
 slice_bounds-bytes-end c =
-    let told = c.before.before.before.before.Line-of in
-    let long : length told.result.bytes-1 ≡ 128 = search rules in
+    let told = c.Line-of in
+    let long : length told.result.bytes ≡ 128 = search rules in
     omega (arith, told.ensures.1)
 
 write_all-requires-3 : tie.Need-write_all-requires-3

@@ -15,12 +15,12 @@ use Rattle.symbols.proofs.bracketed_from.Tie as tie
 is_at-requires : tie.Need-is_at-requires
 is_at-requires c κs = search rules
 
-found : (c : tie.Then-is_at) → starts_with caret (drop c.before.before.before.args.at c.before.before.before.args.text.now) ≡ true
-found c = sym c.before.is_at.ensures ∙ c.if-is_at.true
+found : (c : tie.Then-is_at) → starts_with caret (drop c.args.at c.args.text.now) ≡ true
+found c = sym c.is_at.ensures ∙ c.if-is_at.true
 
 overflow_add-at : tie.Need-overflow_add-at
 overflow_add-at c =
-    let args = c.before.before.before.args in
+    let args = c.args in
     omega (arith, starts_within caret args.text.now args.at (found c))
 
 listed_from-requires : tie.Need-listed_from-requires
@@ -31,16 +31,16 @@ without-requires c κs = search rules
 
 returns-then-is_at : tie.Need-returns-then-is_at
 returns-then-is_at c =
-    let args = c.before.before.before.before.before.args in
+    let args = c.args in
     c.without.ensures
-    ∙ ap (λ (n : ℕ). args.alphabet - bit_and args.alphabet n) c.before.listed_from.ensures
+    ∙ ap (λ (n : ℕ). args.alphabet - bit_and args.alphabet n) c.listed_from.ensures
     ∙ sym (ap (set_from args.alphabet) (starts_cons caret args.text.now args.at (found c.before.before)))
 
 listed_from-requires-2 : tie.Need-listed_from-requires-2
 listed_from-requires-2 c κs = search rules
 
 returns : tie.Need-returns
-returns c = rw (sym c.before.before.is_at.ensures ∙ c.before.if-is_at.false) c.listed_from-2.ensures
+returns c = rw (sym c.is_at.ensures ∙ c.if-is_at.false) c.listed_from-2.ensures
 
 pub bracketed_from_spec : {M : Type 1} → statement M
 bracketed_from_spec =

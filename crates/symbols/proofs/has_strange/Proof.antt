@@ -35,14 +35,14 @@ loop-i-smaller c = search rules
 
 loop-i-preserved : tie.Need-loop-i-preserved invariant-loop-i decreases-loop-i
 loop-i-preserved c =
-    let args = c.before.before.before.before.args in
-    let loop = c.before.before.loop-i in
+    let args = c.args in
+    let loop = c.loop-i in
     (omega arith, any_more (λ e. not (has args.alphabet e)) args.text.now loop.i loop.found c.strange_at-found.result (omega arith) loop.invariant.1 c.strange_at-found.ensures)
 
 returns : tie.Need-returns invariant-loop-i decreases-loop-i
 returns c =
-    let args = c.before.before.before.args in
-    let loop = c.before.loop-i in
+    let args = c.args in
+    let loop = c.loop-i in
     let e : loop.i ≡ length args.text.now = omega arith in
     loop.invariant.1 ∙ ap (λ (w : List ℕ). any (λ e. not (has args.alphabet e)) (typed_letters w)) (ap (λ (n : ℕ). take n args.text.now) e ∙ take-length args.text.now)
 

@@ -15,8 +15,8 @@ table_by-requires c κs = search rules
 
 returns : tie.Need-returns
 returns c =
-    let args = c.before.before.before.args in
-    subst (λ (n : ℕ). c.table_by.result ≡ item_table (items_by args.alphabet args.text.now args.order.now n)) c.before.kept.ensures.0 c.table_by.ensures
+    let args = c.args in
+    subst (λ (n : ℕ). c.table_by.result ≡ item_table (items_by args.alphabet args.text.now args.order.now n)) c.kept.ensures.0 c.table_by.ensures
 
 pub items_by_spec : {M : Type 1} → statement M
 items_by_spec = tie.close (tie.spec kept-requires table_by-requires returns)

@@ -19,19 +19,19 @@ is_at-requires c κs = search rules
 
 -- the bytes from the place on, and the tests that were answered
 abbrev bytes : tie.After-is_at → List ℕ
-bytes c = let args = c.before.before.before.args in drop args.at args.text.now
+bytes c = let args = c.args in drop args.at args.text.now
 
-first : (c : tie.After-is_at) {b : Bool} → (c.before.letter_at.result || c.is_at.result) ≡ b → (starts_with_letter (bytes c) || starts_with opening_set (bytes c)) ≡ b
-first c e = sym (λ i. c.before.letter_at.ensures i || c.is_at.ensures i) ∙ e
+first : (c : tie.After-is_at) {b : Bool} → (c.letter_at.result || c.is_at.result) ≡ b → (starts_with_letter (bytes c) || starts_with opening_set (bytes c)) ≡ b
+first c e = sym (λ i. c.letter_at.ensures i || c.is_at.ensures i) ∙ e
 
 none1 : (c : tie.Else-letter_at-is_at) → (starts_with_letter (bytes c.before) || starts_with opening_set (bytes c.before)) ≡ false
 none1 c = first c.before c.if-letter_at-is_at.false
 
 none2 : (c : tie.Else-is_at) → starts_with semicolon (bytes c.before.before.before) ≡ false
-none2 c = sym c.before.is_at-2.ensures ∙ c.if-is_at.false
+none2 c = sym c.is_at-2.ensures ∙ c.if-is_at.false
 
 none3 : (c : tie.Else-is_at-2) → starts_with bar (bytes c.before.before.before.before.before) ≡ false
-none3 c = sym c.before.is_at-3.ensures ∙ c.if-is_at-2.false
+none3 c = sym c.is_at-3.ensures ∙ c.if-is_at-2.false
 
 returns-then-letter_at-is_at : tie.Need-returns-then-letter_at-is_at
 returns-then-letter_at-is_at c a = sym (kind_tests a (bytes c.before) ∙ rw (first c.before c.if-letter_at-is_at.true))
@@ -41,31 +41,25 @@ is_at-requires-2 c κs = search rules
 
 returns-then-is_at : tie.Need-returns-then-is_at
 returns-then-is_at c a =
-    let e = c.before.before in
-    sym (kind_tests a (bytes e.before) ∙ rw (none1 e, sym c.before.is_at-2.ensures ∙ c.if-is_at.true))
+    sym (kind_tests a (bytes c.before.before.before) ∙ rw (none1 c.before.before, sym c.is_at-2.ensures ∙ c.if-is_at.true))
 
 is_at-requires-3 : tie.Need-is_at-requires-3
 is_at-requires-3 c κs = search rules
 
 returns-then-is_at-2 : tie.Need-returns-then-is_at-2
 returns-then-is_at-2 c a =
-    let e = c.before.before in
-    sym (kind_tests a (bytes e.before.before.before) ∙ rw (none1 e.before.before, none2 e, sym c.before.is_at-3.ensures ∙ c.if-is_at-2.true))
+    sym (kind_tests a (bytes c.before.before.before.before.before) ∙ rw (none1 c.before.before.before.before, none2 c.before.before, sym c.is_at-3.ensures ∙ c.if-is_at-2.true))
 
 is_at-requires-4 : tie.Need-is_at-requires-4
 is_at-requires-4 c κs = search rules
 
 returns-then-is_at-3 : tie.Need-returns-then-is_at-3
 returns-then-is_at-3 c a =
-    let e = c.before.before in
-    let d = e.before.before in
-    sym (kind_tests a (bytes d.before.before.before) ∙ rw (none1 d.before.before, none2 d, none3 e, sym c.before.is_at-4.ensures ∙ c.if-is_at-3.true))
+    sym (kind_tests a (bytes c.before.before.before.before.before.before.before) ∙ rw (none1 c.before.before.before.before.before.before, none2 c.before.before.before.before, none3 c.before.before, sym c.is_at-4.ensures ∙ c.if-is_at-3.true))
 
 returns : tie.Need-returns
 returns c a =
-    let e = c.before.before in
-    let d = e.before.before in
-    sym (kind_tests a (bytes d.before.before.before) ∙ rw (none1 d.before.before, none2 d, none3 e, sym c.before.is_at-4.ensures ∙ c.if-is_at-3.false))
+    sym (kind_tests a (bytes c.before.before.before.before.before.before.before) ∙ rw (none1 c.before.before.before.before.before.before, none2 c.before.before.before.before, none3 c.before.before, sym c.is_at-4.ensures ∙ c.if-is_at-3.false))
 
 pub kind_from_spec : {M : Type 1} → statement M
 kind_from_spec =

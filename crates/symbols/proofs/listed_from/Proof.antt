@@ -27,19 +27,19 @@ letter_at-requires : tie.Need-letter_at-requires invariant-loop-set decreases-lo
 letter_at-requires c κs = search rules
 
 abbrev text : tie.In-loop-set invariant-loop-set decreases-loop-set → List ℕ
-text c = c.before.before.before.before.args.text.now
+text c = c.args.text.now
 
-letter : (c : tie.In-loop-set invariant-loop-set decreases-loop-set) → starts_with_letter (drop c.before.before.loop-set.at (text c)) ≡ true
-letter c = sym c.before.letter_at.ensures ∙ c.loop-set-test.true
+letter : (c : tie.In-loop-set invariant-loop-set decreases-loop-set) → starts_with_letter (drop c.loop-set.at (text c)) ≡ true
+letter c = sym c.letter_at.ensures ∙ c.loop-set-test.true
 
-within : (c : tie.In-loop-set invariant-loop-set decreases-loop-set) → c.before.before.loop-set.at < length (text c)
-within c = letter_within (text c) c.before.before.loop-set.at (letter c)
+within : (c : tie.In-loop-set invariant-loop-set decreases-loop-set) → c.loop-set.at < length (text c)
+within c = letter_within (text c) c.loop-set.at (letter c)
 
 bounds-text-at : tie.Need-bounds-text-at invariant-loop-set decreases-loop-set
 bounds-text-at c = within c.before
 
 single-set-requires : tie.Need-single-set-requires invariant-loop-set decreases-loop-set
-single-set-requires c κs = here_letter (text c.before) c.before.before.before.loop-set.at (letter c.before)
+single-set-requires c κs = here_letter (text c.before) c.loop-set.at (letter c.before)
 
 overflow_add-at : tie.Need-overflow_add-at invariant-loop-set decreases-loop-set
 overflow_add-at c = omega (arith, within c.before.before)
@@ -49,16 +49,15 @@ loop-set-smaller c = omega (arith, within c.before.before)
 
 loop-set-preserved : tie.Need-loop-set-preserved invariant-loop-set decreases-loop-set
 loop-set-preserved c =
-    let t = c.before.before in
-    let loop = t.before.before.loop-set in
+    let loop = c.loop-set in
     loop.invariant
-    ∙ listed_turn loop.set (text t) loop.at (letter t)
-    ∙ ap (λ (n : ℕ). bit_or (bit_or loop.set n) (listed (letters (drop (loop.at + 1) (text t))))) (sym c.single-set.ensures)
+    ∙ listed_turn loop.set (text c.before.before) loop.at (letter c.before.before)
+    ∙ ap (λ (n : ℕ). bit_or (bit_or loop.set n) (listed (letters (drop (loop.at + 1) (text c.before.before))))) (sym c.single-set.ensures)
 
 returns : tie.Need-returns invariant-loop-set decreases-loop-set
 returns c =
-    let loop = c.before.before.loop-set in
-    sym (loop.invariant ∙ listed_end loop.set _ (sym c.before.letter_at.ensures ∙ c.loop-set-test.false))
+    let loop = c.loop-set in
+    sym (loop.invariant ∙ listed_end loop.set _ (sym c.letter_at.ensures ∙ c.loop-set-test.false))
 
 pub listed_from_spec : {M : Type 1} → statement M
 listed_from_spec =

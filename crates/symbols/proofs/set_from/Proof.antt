@@ -33,47 +33,42 @@ abbrev set_at : tie.After-letter_at → List ℕ → ℕ
 set_at c w = set_of (item_from (start c).args.alphabet w)
 
 letter : (c : tie.Then-letter_at) → starts_with_letter (drop (at c.before) (text c.before)) ≡ true
-letter c = sym c.before.letter_at.ensures ∙ c.if-letter_at.true
+letter c = sym c.letter_at.ensures ∙ c.if-letter_at.true
 
 within : (c : tie.Then-letter_at) → at c.before < length (text c.before)
 within c = letter_within (text c.before) (at c.before) (letter c)
 
 bracket : (c : tie.Then-is_at) → starts_with opening_set (drop (at c.before.before.before) (text c.before.before.before)) ≡ true
-bracket c = sym c.before.is_at.ensures ∙ c.if-is_at.true
+bracket c = sym c.is_at.ensures ∙ c.if-is_at.true
 
 bounds-text-at : tie.Need-bounds-text-at
 bounds-text-at c = within c.before
 
 single-requires : tie.Need-single-requires
-single-requires c κs = let t = c.before in here_letter (text t.before) (at t.before) (letter t)
+single-requires c κs = here_letter (text c.before.before) (at c.before.before) (letter c.before)
 
 returns-then-letter_at : tie.Need-returns-then-letter_at
 returns-then-letter_at c =
-    let t = c.before.before in
-    let e = t.before in
-    let first : set_at e (drop (at e) (text e)) ≡ _ = ap (set_at e) (from_here (text e) (at e) (within t)) in
-    c.single.ensures ∙ sym (first ∙ rw (here_letter (text e) (at e) (letter t)) (listed_single (event_of (place (text e) (at e)))))
+    let first : set_at c.before.before.before (drop (at c.before.before.before) (text c.before.before.before)) ≡ _ = ap (set_at c.before.before.before) (from_here (text c.before.before.before) (at c.before.before.before) (within c.before.before)) in
+    c.single.ensures ∙ sym (first ∙ rw (here_letter (text c.before.before.before) (at c.before.before.before) (letter c.before.before)) (listed_single (event_of (place (text c.before.before.before) (at c.before.before.before)))))
 
 is_at-requires : tie.Need-is_at-requires
 is_at-requires c κs = search rules
 
 overflow_add-at : tie.Need-overflow_add-at
 overflow_add-at c =
-    let e = c.before.before.before in
-    omega (arith, starts_within opening_set (text e) (at e) (bracket c))
+    omega (arith, starts_within opening_set (text c.before.before.before) (at c.before.before.before) (bracket c))
 
 bracketed_from-requires : tie.Need-bracketed_from-requires
 bracketed_from-requires c κs = search rules
 
 returns-then-is_at : tie.Need-returns-then-is_at
 returns-then-is_at c =
-    let e = c.before.before.before.before in
-    c.bracketed_from.ensures ∙ sym (ap (set_at e) (starts_cons opening_set (text e) (at e) (bracket c.before)))
+    c.bracketed_from.ensures ∙ sym (ap (set_at c.before.before.before.before) (starts_cons opening_set (text c.before.before.before.before) (at c.before.before.before.before) (bracket c.before)))
 
 returns : tie.Need-returns
 returns c =
-    let e = c.before.before.before in
-    sym (set_none (start e).args.alphabet (drop (at e) (text e)) (sym e.letter_at.ensures ∙ c.before.before.if-letter_at.false) (sym c.before.is_at.ensures ∙ c.if-is_at.false))
+    sym (set_none (start c.before.before.before).args.alphabet (drop (at c.before.before.before) (text c.before.before.before)) (sym c.letter_at.ensures ∙ c.if-letter_at.false) (sym c.is_at.ensures ∙ c.if-is_at.false))
 
 pub set_from_spec : {M : Type 1} → statement M
 set_from_spec =

@@ -18,13 +18,13 @@ letter_at-requires : tie.Need-letter_at-requires
 letter_at-requires c κs = search rules
 
 abbrev text : tie.Then-letter_at → List ℕ
-text c = c.before.before.before.args.text.now
+text c = c.args.text.now
 
 abbrev at : tie.Then-letter_at → ℕ
-at c = c.before.before.before.args.at
+at c = c.args.at
 
 letter : (c : tie.Then-letter_at) → starts_with_letter (drop (at c) (text c)) ≡ true
-letter c = sym c.before.letter_at.ensures ∙ c.if-letter_at.true
+letter c = sym c.letter_at.ensures ∙ c.if-letter_at.true
 
 bounds-text-at : tie.Need-bounds-text-at
 bounds-text-at c = letter_within (text c.before) (at c.before) (letter c.before)
@@ -40,14 +40,13 @@ has-requires c κs = omega (arith, here_event (text c.before) (at c.before) (let
 
 returns-then-letter_at : tie.Need-returns-then-letter_at
 returns-then-letter_at c =
-    let t = c.before.before in
-    let alphabet = t.before.before.before.args.alphabet in
-    ap not c.has.ensures ∙ sym (any_letter (λ e. not (has alphabet e)) (place (text t) (at t)) (here_letter (text t) (at t) (letter t)))
+    let alphabet = c.args.alphabet in
+    ap not c.has.ensures ∙ sym (any_letter (λ e. not (has alphabet e)) (place (text c.before.before) (at c.before.before)) (here_letter (text c.before.before) (at c.before.before) (letter c.before.before)))
 
 returns-else-letter_at : tie.Need-returns-else-letter_at
 returns-else-letter_at c =
-    let args = c.before.before.before.args in
-    sym (any_other (λ e. not (has args.alphabet e)) (place args.text.now args.at) (here_other args.text.now args.at (sym c.before.letter_at.ensures ∙ c.if-letter_at.false)))
+    let args = c.args in
+    sym (any_other (λ e. not (has args.alphabet e)) (place args.text.now args.at) (here_other args.text.now args.at (sym c.letter_at.ensures ∙ c.if-letter_at.false)))
 
 pub strange_at_spec : {M : Type 1} → statement M
 strange_at_spec =

@@ -66,15 +66,14 @@ loop-i-smaller c = search rules
 
 loop-i-preserved : tie.Need-loop-i-preserved invariant-loop-i decreases-loop-i
 loop-i-preserved c =
-    let b = c.before.before in
-    let loop = b.before.before.before.loop-i in
-    let args = b.before.before.before.before.before.before.args in
+    let loop = c.loop-i in
+    let args = c.args in
     let item = item_at args.alphabet args.text.now args.order.now in
-    let here : item_from args.alphabet (drop b.byte-at.result args.text.now) ≡ item loop.i = ap (λ (n : ℕ). item_from args.alphabet (drop n args.text.now)) b.byte-at.ensures.0 in
+    let here : item_from args.alphabet (drop c.byte-at.result args.text.now) ≡ item loop.i = ap (λ (n : ℕ). item_from args.alphabet (drop n args.text.now)) c.byte-at.ensures.0 in
     let few : loop.i < 64 = omega arith in (
       omega arith,
-      ap (λ (l : List ℕ). set l loop.i c.before.kind_from.result) loop.invariant.1
-          ∙ column_more 64 kind_of item loop.i c.before.kind_from.result few (c.before.kind_from.ensures args.alphabet ∙ ap kind_of here),
+      ap (λ (l : List ℕ). set l loop.i c.kind_from.result) loop.invariant.1
+          ∙ column_more 64 kind_of item loop.i c.kind_from.result few (c.kind_from.ensures args.alphabet ∙ ap kind_of here),
       ap (λ (l : List ℕ). set l loop.i c.set_from.result) loop.invariant.2
           ∙ column_more 64 set_of item loop.i c.set_from.result few (c.set_from.ensures ∙ ap set_of here),
     )
@@ -82,8 +81,8 @@ loop-i-preserved c =
 returns : tie.Need-returns invariant-loop-i decreases-loop-i
 unfolding items_by
 returns c =
-    let args = c.before.before.before.before.args in
-    let loop = c.before.loop-i in
+    let args = c.args in
+    let loop = c.loop-i in
     let item = item_at args.alphabet args.text.now args.order.now in
     let e : loop.i ≡ args.count = omega arith in
     let kept : ◌≡◌ {A = Items} (record { kind = loop.items.kind; set = loop.items.set; count = loop.i }) (item_table (row loop.i item)) = λ j. record { kind = loop.invariant.1 j; set = loop.invariant.2 j; count = sym (row_length item loop.i) j } in

@@ -51,16 +51,14 @@ read_jobs-requires : tie.Need-read_jobs-requires
 read_jobs-requires c κs = search rules
 
 read_channels-requires : tie.Need-read_channels-requires
-read_channels-requires c κs = let h = c.before.before.before.before.before.before.before.before.before.before.before.before.before.before.requires in (h.0.channels, omega (arith, h), omega (arith, h))
+read_channels-requires c κs = let h = c.requires in (h.0.channels, omega (arith, h), omega (arith, h))
 
 returns : tie.Need-returns
 returns c =
-    let arcs = c.before.before.before.before in
-    let start = arcs.before.before.before.before.before.before.before.before.before.before.before in
-    let a = start.args in
-    let h = start.requires.0 in (
-      sections_read a.plan.now a.h _ _ _ _ c.before.before.before.kind_of.ensures c.before.before.events.ensures c.before.read_jobs.ensures c.read_channels.ensures,
-      rows_worded (plan_under a.plan.now a.h) _ _ _ _ _ _ refl refl refl h.steps h.calls arcs.before.before.before.before.read_arcs.ensures arcs.before.before.read_arcs-2.ensures arcs.read_arcs-3.ensures,
+    let a = c.args in
+    let h = c.requires.0 in (
+      sections_read a.plan.now a.h _ _ _ _ c.kind_of.ensures c.events.ensures c.read_jobs.ensures c.read_channels.ensures,
+      rows_worded (plan_under a.plan.now a.h) _ _ _ _ _ _ refl refl refl h.steps h.calls c.read_arcs.ensures c.read_arcs-2.ensures c.read_arcs-3.ensures,
     )
 
 pub decode_spec : {M : Type 1} → statement M

@@ -15,7 +15,7 @@ returns-then-bit-eq0 : tie.Need-returns-then-bit-eq0
 returns-then-bit-eq0 c = search rules
 
 returns-else-bit-eq0 : tie.Need-returns-else-bit-eq0
-returns-else-bit-eq0 c = not_zero c.before.args.bit c.if-bit-eq0.false
+returns-else-bit-eq0 c = not_zero c.args.bit c.if-bit-eq0.false
 
 pub kind_of_spec : {M : Type 1} → statement M
 kind_of_spec = tie.close (tie.spec returns-then-bit-eq0 returns-else-bit-eq0)

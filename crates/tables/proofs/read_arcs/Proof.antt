@@ -23,33 +23,33 @@ loop-i-init c = (omega arith, packed_none _ _ _)
 
 -- the arc of this turn ends within the arcs
 room : (c : tie.In-loop-i invariant-loop-i decreases-loop-i)
-    → ((16 + c.before.before.before.args.width) * c.before.loop-i.i + (16 + c.before.before.before.args.width) ≤ (16 + c.before.before.before.args.width) * c.before.before.before.args.count)
-    × ((16 + c.before.before.before.args.width) * c.before.loop-i.i ≤ 6144)
-room c = stride (16 + c.before.before.before.args.width) c.before.loop-i.i c.before.before.before.args.count (omega arith) (omega arith) (omega arith)
+    → ((16 + c.args.width) * c.loop-i.i + (16 + c.args.width) ≤ (16 + c.args.width) * c.args.count)
+    × ((16 + c.args.width) * c.loop-i.i ≤ 6144)
+room c = stride (16 + c.args.width) c.loop-i.i c.args.count (omega arith) (omega arith) (omega arith)
 
 -- the arc of this turn
 abbrev next : tie.After-field-arc invariant-loop-i decreases-loop-i → Arc
-next c = let args = c.before.before.before.before.args in arc_at args.plan.now args.width (args.at + (16 + args.width) * c.before.before.loop-i.i)
+next c = let args = c.args in arc_at args.plan.now args.width (args.at + (16 + args.width) * c.loop-i.i)
 
 -- its parts are numbers of a byte
 module _ (c : tie.After-field-arc invariant-loop-i decreases-loop-i) where
   abbrev width : ℕ
   width = c.before.before.before.before.args.width
 
-  parts : (c.field-arc.result / 2 ^ (8 + width) ≡ (next c).from) × (c.field-arc.result / 2 ^ width % 2 ^ 8 ≡ (next c).to) × (c.field-arc.result % (1 * 2 ^ width % 2 ^ 64) ≡ (next c).label)
+  parts : (c.field.result / 2 ^ (8 + width) ≡ (next c).from) × (c.field.result / 2 ^ width % 2 ^ 8 ≡ (next c).to) × (c.field.result % (1 * 2 ^ width % 2 ^ 64) ≡ (next c).label)
   parts =
       let args = c.before.before.before.before.args in
-      arc_parts args.plan.now args.width (args.at + (16 + args.width) * c.before.before.loop-i.i) c.field-arc.result (omega arith) (omega (arith, room c.before)) c.field-arc.ensures
+      arc_parts args.plan.now args.width (args.at + (16 + args.width) * c.before.before.loop.i) c.field.result (omega arith) (omega (arith, room c.before)) c.field.ensures
 
   from_fits : (next c).from < 2 ^ 8
   from_fits =
       let args = c.before.before.before.before.args in
-      field_lt args.plan.now (args.at + (16 + args.width) * c.before.before.loop-i.i) 8 (omega (arith, room c.before))
+      field_lt args.plan.now (args.at + (16 + args.width) * c.before.before.loop.i) 8 (omega (arith, room c.before))
 
   label_fits : (next c).label < 2 ^ 8
   label_fits =
       let args = c.before.before.before.before.args in
-      omega (arith, field_lt args.plan.now (args.at + (16 + args.width) * c.before.before.loop-i.i + 16) args.width (omega (arith, room c.before)), pow_mono {i = args.width} {j = 8} (omega arith))
+      omega (arith, field_lt args.plan.now (args.at + (16 + args.width) * c.before.before.loop.i + 16) args.width (omega (arith, room c.before)), pow_mono {i = args.width} {j = 8} (omega arith))
 
 overflow_add-width : tie.Need-overflow_add-width invariant-loop-i decreases-loop-i
 overflow_add-width c = omega arith
@@ -113,17 +113,16 @@ loop-i-smaller c = omega arith
 
 loop-i-preserved : tie.Need-loop-i-preserved invariant-loop-i decreases-loop-i
 loop-i-preserved c =
-    let start = c.before.before.before.before in
-    let loop = c.before.before.loop-i in (
+    let loop = c.loop-i in (
       omega arith,
-      packed_more _ _ _ loop.i loop.words _ _ _ loop.invariant.1 (omega (arith, loop.invariant.1.long, start.requires)) (parts c).0 (parts c).1 (parts c).2 (omega (arith, (parts c).0, from_fits c)) (omega arith),
+      packed_more _ _ _ loop.i loop.words _ _ _ loop.invariant.1 (omega (arith, loop.invariant.1.long, c.requires)) (parts c).0 (parts c).1 (parts c).2 (omega (arith, (parts c).0, from_fits c)) (omega arith),
     )
 
 returns : tie.Need-returns invariant-loop-i decreases-loop-i
 returns c =
-    let a = c.before.before.before.args in
-    let e : c.before.loop-i.i ≡ a.count = omega arith in
-    subst (λ (n : ℕ). Packed (λ (k : ℕ). arc_at a.plan.now a.width (a.at + (16 + a.width) * k)) a.place n a.words.now c.before.loop-i.words) e c.before.loop-i.invariant.1
+    let a = c.args in
+    let e : c.loop-i.i ≡ a.count = omega arith in
+    subst (λ (n : ℕ). Packed (λ (k : ℕ). arc_at a.plan.now a.width (a.at + (16 + a.width) * k)) a.place n a.words.now c.loop-i.words) e c.loop-i.invariant.1
 
 pub read_arcs_spec : {M : Type 1} → statement M
 read_arcs_spec =

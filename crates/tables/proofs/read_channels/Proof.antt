@@ -31,8 +31,8 @@ field-requires c κs = omega arith
 
 overflow_cast-event : tie.Need-overflow_cast-event invariant-loop-i decreases-loop-i
 overflow_cast-event c =
-    let args = c.before.before.before.before.args in
-    omega (arith, c.field.ensures, field_lt args.plan.now (args.at + 5 * c.before.before.loop-i.i) 5 (omega arith))
+    let args = c.args in
+    omega (arith, c.field.ensures, field_lt args.plan.now (args.at + 5 * c.loop-i.i) 5 (omega arith))
 
 bounds-event-i : tie.Need-bounds-event-i invariant-loop-i decreases-loop-i
 bounds-event-i c = omega arith
@@ -45,17 +45,17 @@ loop-i-smaller c = omega arith
 
 loop-i-preserved : tie.Need-loop-i-preserved invariant-loop-i decreases-loop-i
 loop-i-preserved c =
-    let args = c.before.before.before.before.args in
-    let loop = c.before.before.loop-i in
+    let args = c.args in
+    let loop = c.loop-i in
     let f : ℕ → ℕ = λ (k : ℕ). field_at args.plan.now (args.at + 5 * k) 5 in
     (omega arith, rw loop.invariant.1 (padded_row_more 64 f loop.i c.field.result (omega arith) c.field.ensures))
 
 returns : tie.Need-returns invariant-loop-i decreases-loop-i
 returns c =
-    let args = c.before.before.before.args in
+    let args = c.args in
     let f : ℕ → ℕ = λ (k : ℕ). field_at args.plan.now (args.at + 5 * k) 5 in
-    let e : c.before.loop-i.i ≡ c.before.before.before.args.count = omega arith in
-    channels_read f c.before.loop-i.i args.count e c.before.loop-i.event c.before.loop-i.invariant.1
+    let e : c.loop-i.i ≡ c.args.count = omega arith in
+    channels_read f c.loop-i.i args.count e c.loop-i.event c.loop-i.invariant.1
 
 pub read_channels_spec : {M : Type 1} → statement M
 read_channels_spec =

@@ -100,22 +100,22 @@ loop-i-smaller c = omega arith
 
 loop-i-preserved : tie.Need-loop-i-preserved invariant-loop-i decreases-loop-i
 loop-i-preserved c =
-    let args = c.before.before.before.before.before.before.before.args in
-    let loop = c.before.before.before.before.before.loop-i in
+    let args = c.args in
+    let loop = c.loop-i in
     let f = said args.plan.now args.at in
-    let h : c.before.before.before.before.before.loop-i.i < 16 = omega arith in (
+    let h : c.loop-i.i < 16 = omega arith in (
       omega arith,
-      rw loop.invariant.1 (column_more 16 (λ (j : Job). j.size) f loop.i c.before.before.before.field.result h c.before.before.before.field.ensures),
-      rw loop.invariant.2 (column_more 16 (λ (j : Job). j.entry) f loop.i c.before.before.field-in-loop-i.result h c.before.before.field-in-loop-i.ensures),
-      rw loop.invariant.3 (column_more 16 (λ (j : Job). j.exit) f loop.i c.before.field-in-loop-i-2.result h c.before.field-in-loop-i-2.ensures),
+      rw loop.invariant.1 (column_more 16 (λ (j : Job). j.size) f loop.i c.field.result h c.field.ensures),
+      rw loop.invariant.2 (column_more 16 (λ (j : Job). j.entry) f loop.i c.field-in-loop-i.result h c.field-in-loop-i.ensures),
+      rw loop.invariant.3 (column_more 16 (λ (j : Job). j.exit) f loop.i c.field-in-loop-i-2.result h c.field-in-loop-i-2.ensures),
       rw loop.invariant.4 (column_more 16 (λ (j : Job). j.standing) f loop.i c.field-in-loop-i-3.result h c.field-in-loop-i-3.ensures),
     )
 
 returns : tie.Need-returns invariant-loop-i decreases-loop-i
 returns c =
-    let args = c.before.before.before.args in
-    let loop = c.before.loop-i in
-    let e : c.before.loop-i.i ≡ c.before.before.before.args.count = omega arith in
+    let args = c.args in
+    let loop = c.loop-i in
+    let e : c.loop-i.i ≡ c.args.count = omega arith in
     jobs_read (said args.plan.now args.at) loop.i args.count e loop.size loop.entry loop.exit loop.standing loop.invariant.1 loop.invariant.2 loop.invariant.3 loop.invariant.4
 
 pub read_jobs_spec : {M : Type 1} → statement M

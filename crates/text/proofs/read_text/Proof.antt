@@ -23,16 +23,16 @@ abbrev text : tie.In-Next → List ℕ
 text c = (start c).args.text.now
 
 abbrev order : tie.In-Next → List ℕ
-order c = c.before.before.before.read_choice-read.new.1.0
+order c = c.read_choice-read.new.1.0
 
 abbrev end : tie.In-Next → ℕ
-end c = c.before.read-1.given.0.0
+end c = c.read-1.given.0.0
 
 abbrev count : tie.In-Next → ℕ
-count c = c.before.read-1.given.0.1.0
+count c = c.read-1.given.0.1.0
 
 came : (c : tie.In-Next) → Came (text c) (order c) (end c) (count c)
-came c = subst (λ (r : Reached). Read (text c) (order c) r) c.before.read-1.given.1 c.before.before.before.read_choice-read.ensures
+came c = subst (λ (r : Reached). Read (text c) (order c) r) c.read-1.given.1 c.read_choice-read.ensures
 
 short : (c : tie.In-Next) → length (text c) ≤ 255
 short c = omega arith
@@ -40,17 +40,16 @@ short c = omega arith
 all_read : (c : tie.Else-end-text) → Way (chain choices) (text c.before) (up_to (came c.before).tree [])
 all_read c = whole (text c.before) (order c.before) (end c.before) (count c.before) (came c.before) (omega arith)
 
-few : (c : tie.Else-count-gt64) → let k = c.before.before in length (items_of (start k).args.alphabet (came k).tree) ≤ 64
+few : (c : tie.Else-count-gt64) → length (items_of (start c.before.before).args.alphabet (came c.before.before).tree) ≤ 64
 few c =
-    let k = c.before.before in
-    omega (arith, items_counted (start k).args.alphabet (text k) (order k) (end k) (count k) (came k))
+    omega (arith, items_counted (start c.before.before).args.alphabet (text c.before.before) (order c.before.before) (end c.before.before) (count c.before.before) (came c.before.before))
 
 none_read-requires : tie.Need-none_read-requires
 none_read-requires c κs = search rules
 
 returns-then-text-gt255 : tie.Need-returns-then-text-gt255
 returns-then-text-gt255 c =
-    let a = c.before.before.before.args in
+    let a = c.args in
     long_text a.text.now a.alphabet (omega arith) c.none_read.ensures
 
 read_choice-read-requires : tie.Need-read_choice-read-requires
@@ -67,26 +66,24 @@ none_read-requires-in_default c κs = search rules
 
 returns-in_default : tie.Need-returns-in_default
 returns-in_default c =
-    let a = c.before.before.before.before.before.before.before.args in
-    let chosen = c.before.before.before.read_choice-read in
-    broken_text a.text.now a.alphabet (subst (λ (r : Reached). Read a.text.now chosen.new.1.0 r) c.before.enum_told-1.given.1 chosen.ensures) c.none_read-in_default.ensures
+    let a = c.args in
+    let chosen = c.read_choice-read in
+    broken_text a.text.now a.alphabet (subst (λ (r : Reached). Read a.text.now chosen.new.1.0 r) c.enum_told-1.given.1 chosen.ensures) c.none_read-in_default.ensures
 
 none_read-requires-then-end-text : tie.Need-none_read-requires-then-end-text
 none_read-requires-then-end-text c κs = search rules
 
 returns-then-end-text : tie.Need-returns-then-end-text
 returns-then-end-text c =
-    let k = c.before.before in
-    more_text (text k) (start k).args.alphabet (came k).tree _ _ (left_over (text k) (order k) (end k) (count k) (came k) (omega arith)) c.none_read-then-end-text.ensures
+    more_text (text c.before.before) (start c.before.before).args.alphabet (came c.before.before).tree _ _ (left_over (text c.before.before) (order c.before.before) (end c.before.before) (count c.before.before) (came c.before.before) (omega arith)) c.none_read-then-end-text.ensures
 
 none_read-requires-then-count-gt64 : tie.Need-none_read-requires-then-count-gt64
 none_read-requires-then-count-gt64 c κs = search rules
 
 returns-then-count-gt64 : tie.Need-returns-then-count-gt64
 returns-then-count-gt64 c =
-    let k = c.before.before.before in
-    let a = (start k).args.alphabet in
-    many_items_lem (text k) a (came k).tree (all_read c.before.before) (short k) (omega (arith, items_counted a (text k) (order k) (end k) (count k) (came k))) c.none_read-then-count-gt64.ensures
+    let a = (start c.before.before.before).args.alphabet in
+    many_items_lem (text c.before.before.before) a (came c.before.before.before).tree (all_read c.before.before) (short c.before.before.before) (omega (arith, items_counted a (text c.before.before.before) (order c.before.before.before) (end c.before.before.before) (count c.before.before.before) (came c.before.before.before))) c.none_read-then-count-gt64.ensures
 
 has_strange-requires : tie.Need-has_strange-requires
 has_strange-requires c κs = search rules
@@ -96,21 +93,19 @@ none_read-requires-then-has_strange c κs = search rules
 
 returns-then-has_strange : tie.Need-returns-then-has_strange
 returns-then-has_strange c =
-    let k = c.before.before.before.before.before in
-    let a = (start k).args.alphabet in
-    strange_letter_lem (text k) a (came k).tree (all_read c.before.before.before.before) (short k) (few c.before.before.before)
-    (sym c.before.before.has_strange.ensures ∙ c.before.if-has_strange.true) c.none_read-then-has_strange.ensures
+    let a = (start c.before.before.before.before.before).args.alphabet in
+    strange_letter_lem (text c.before.before.before.before.before) a (came c.before.before.before.before.before).tree (all_read c.before.before.before.before) (short c.before.before.before.before.before) (few c.before.before.before)
+    (sym c.has_strange.ensures ∙ c.if-has_strange.true) c.none_read-then-has_strange.ensures
 
 items_by-requires : tie.Need-items_by-requires
 items_by-requires c κs = search rules
 
 returns : tie.Need-returns
 returns c =
-    let k = c.before.before.before.before.before.before in
-    let a = (start k).args.alphabet in
-    let items = c.items_by.ensures ∙ ap item_table (items_kept a (text k) (order k) (end k) (count k) (came k) (omega arith)) in
-    all_items (text k) a (came k).tree (all_read c.before.before.before.before.before) (short k) (few c.before.before.before.before)
-    (sym c.before.before.before.has_strange.ensures ∙ c.before.before.if-has_strange.false) (λ i. record { outcome = Accepted; items = items i })
+    let a = (start c.before.before.before.before.before.before).args.alphabet in
+    let items = c.items_by.ensures ∙ ap item_table (items_kept a (text c.before.before.before.before.before.before) (order c.before.before.before.before.before.before) (end c.before.before.before.before.before.before) (count c.before.before.before.before.before.before) (came c.before.before.before.before.before.before) (omega arith)) in
+    all_items (text c.before.before.before.before.before.before) a (came c.before.before.before.before.before.before).tree (all_read c.before.before.before.before.before) (short c.before.before.before.before.before.before) (few c.before.before.before.before)
+    (sym c.has_strange.ensures ∙ c.if-has_strange.false) (λ i. record { outcome = Accepted; items = items i })
 
 pub read_text_spec : {M : Type 1} → statement M
 read_text_spec =

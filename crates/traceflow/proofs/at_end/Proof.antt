@@ -13,12 +13,12 @@ overflow_sub-result c = search rules
 
 returns-then-bytes-eq0 : tie.Need-returns-then-bytes-eq0
 returns-then-bytes-eq0 c =
-    let a = c.before.args in
+    let a = c.args in
     sym (ap (λ (t : Bool). cond t (0 ∷ 0 ∷ []) ((a.all - a.bytes) ∷ a.bytes ∷ [])) (eq-eqb a.bytes 0 c.if-bytes-eq0.true))
 
 returns-else-bytes-eq0 : tie.Need-returns-else-bytes-eq0
 returns-else-bytes-eq0 c =
-    let a = c.before.args in
+    let a = c.args in
     sym (ap (λ (t : Bool). cond t (0 ∷ 0 ∷ []) ((a.all - a.bytes) ∷ a.bytes ∷ [])) (ne_eqb a.bytes 0 c.if-bytes-eq0.false))
 
 pub at_end_spec : {M : Type 1} → statement M

@@ -14,8 +14,8 @@ shape_of-row c = search rules
 
 returns : tie.Need-returns
 returns c = record {
-  answer = c.before.before.before.before.judge_text-answer.result;
-  judged = c.before.before.before.before.judge_text-answer.ensures;
+  answer = c.judge_text-answer.result;
+  judged = c.judge_text-answer.ensures;
   numbered = c.tell.ensures.0;
   values = c.tell.ensures.1;
 }

@@ -14,13 +14,13 @@ pattern_part-part-requires c κs = search rules
 
 at_end-requires : tie.Need-at_end-requires
 at_end-requires c κs =
-    let b = c.before.before.args.plan.now in
+    let b = c.args.plan.now in
     subst (λ (l : List ℕ). length l ≤ length b) (sym c.pattern_part-part.ensures.bytes) (part_within b)
 
 returns : tie.Need-returns
 returns c =
-    let b = c.before.before.before.args.plan.now in
-    c.at_end.ensures ∙ ap (λ (l : List ℕ). at_end (length b) (length l)) c.before.pattern_part-part.ensures.bytes ∙ place_at_end b
+    let b = c.args.plan.now in
+    c.at_end.ensures ∙ ap (λ (l : List ℕ). at_end (length b) (length l)) c.pattern_part-part.ensures.bytes ∙ place_at_end b
 
 pub traceflow_pattern_part_spec : {M : Type 1} → statement M
 traceflow_pattern_part_spec = tie.close (tie.spec pattern_part-part-requires at_end-requires returns)

@@ -22,36 +22,36 @@ use Rattle.typed.proofs.judge_text.Tie as tie
 
 -- the bytes of the plan, and what its reader said of them, where it has no refusal
 abbrev bytes : tie.In-Accepted → List ℕ
-bytes c = c.before.before.before.before.before.before.before.before.args.plan.now
+bytes c = c.args.plan.now
 
 abbrev found : tie.In-Accepted → PatternRead
-found c = c.before.before.before.read_pattern-read.result
+found c = c.read_pattern-read.result
 
 passed : (c : tie.In-Accepted) → first readable (bytes c) ≡ none
-passed c = passed_reader (bytes c) (found c) c.before.before.before.read_pattern-read.ensures.0 c.enum_told-1.given.1
+passed c = passed_reader (bytes c) (found c) c.read_pattern-read.ensures.0 c.enum_told-1.given.1
 
-kept : (c : tie.In-Accepted) → Reads (plan_of (bytes c)) (found c).reading-1.plan c.before.before.before.read_pattern-read.new.1.0 (found c).reading-1.owner
+kept : (c : tie.In-Accepted) → Reads (plan_of (bytes c)) (found c).reading.plan c.read_pattern-read.new.1.0 (found c).reading.owner
 kept c =
-    let read = c.before.before.before.read_pattern-read in
+    let read = c.read_pattern-read in
     plan_read (bytes c) (found c) read.ensures.0 c.enum_told-1.given.1 _ _ read.ensures.1
 
-items_postfix : (c : tie.In-Accepted) → Postfix (found c).items-1
+items_postfix : (c : tie.In-Accepted) → Postfix (found c).items
 items_postfix c =
-    subst (λ (r : PatternRead). Postfix r.items-1)
-    (sym (all_read (bytes c) (found c) c.before.before.before.read_pattern-read.ensures.0 c.enum_told-1.given.1))
+    subst (λ (r : PatternRead). Postfix r.items)
+    (sym (all_read (bytes c) (found c) c.read_pattern-read.ensures.0 c.enum_told-1.given.1))
     (plan_postfix (bytes c) (passed c))
 
-alphabet : (c : tie.In-Accepted) → (found c).reading-1.plan.alphabet ≡ (plan_of (bytes c)).alphabet
+alphabet : (c : tie.In-Accepted) → (found c).reading.plan.alphabet ≡ (plan_of (bytes c)).alphabet
 alphabet c =
-    ap (λ (r : PatternRead). r.reading-1.plan.alphabet)
-    (all_read (bytes c) (found c) c.before.before.before.read_pattern-read.ensures.0 c.enum_told-1.given.1)
+    ap (λ (r : PatternRead). r.reading.plan.alphabet)
+    (all_read (bytes c) (found c) c.read_pattern-read.ensures.0 c.enum_told-1.given.1)
 
 -- the bytes of the text, and what its reader said of them
 abbrev plan_bytes : tie.After-read_text-typed → List ℕ
 plan_bytes c = bytes c.before
 
 abbrev text_bytes : tie.After-read_text-typed → List ℕ
-text_bytes c = c.before.before.before.before.before.before.before.before.before.args.text.now
+text_bytes c = c.args.text.now
 
 told : (c : tie.After-read_text-typed) → Typed (text_bytes c) (plan_of (plan_bytes c)).alphabet c.read_text-typed.result
 told c = subst (λ (a : ℕ). Typed (text_bytes c) a c.read_text-typed.result) (alphabet c.before) c.read_text-typed.ensures
@@ -77,20 +77,17 @@ enum_told-in-Accepted-typed_found c = search rules
 -- both tables of items are postfix: which of them is judged is left to the promise
 settle_plan-requires : tie.Need-settle_plan-requires
 settle_plan-requires c κs =
-    let told2 = c.before.before.before.before.before.before.before.before.before in
-    let t = told2.before.before in
-    let e = t.before in
-    let typed-items = text_postfix (text_bytes t) _ t.read_text-typed.result (told t) told2.enum_told-in-Accepted-typed_found-1.given.1 in
-    let own_items = items_postfix e in
-    ((plan_of (bytes e), kept e), search (typed-items, own_items))
+    let typed-items = text_postfix (text_bytes c.before.before.before.before.before.before.before.before.before) _ c.read_text-typed.result (told c.before.before.before.before.before.before.before.before.before) c.enum_told-in-Accepted-typed_found-1.given.1 in
+    let own_items = items_postfix c.before.before.before.before.before.before.before.before.before.before in
+    ((plan_of (bytes c.before.before.before.before.before.before.before.before.before.before), kept c.before.before.before.before.before.before.before.before.before.before), search (typed-items, own_items))
 
 returns-in-Refused : tie.Need-returns-in-Refused
 returns-in-Refused c =
-    let args = c.before.before.before.before.before.before.before.before.before.args in
+    let args = c.args in
     let b = args.plan.now in
     let w = args.text.now in
-    let refusal = c.before.found-1.given in
-    let early = refused_by_reader b _ c.before.before.before.before.read_pattern-read.ensures.0 refusal.0.0 refusal.1 in
+    let refusal = c.found-1.given in
+    let early = refused_by_reader b _ c.read_pattern-read.ensures.0 refusal.0.0 refusal.1 in
     let (o, d) = every_text w in
     record {
       tree = o;
@@ -100,16 +97,15 @@ returns-in-Refused c =
 
 returns-in-Refused-typed_found : tie.Need-returns-in-Refused-typed_found
 returns-in-Refused-typed_found c =
-    let t = c.before.before.before in
-    let b = plan_bytes t in
-    let w = text_bytes t in
-    let q = typed w (told t).tree in
-    let refusal = c.before.typed_found-1.given in
-    let late = refused_by_text w _ t.read_text-typed.result (told t) refusal.0.0 refusal.1 in
+    let b = plan_bytes c.before.before.before in
+    let w = text_bytes c.before.before.before in
+    let q = typed w (told c.before.before.before).tree in
+    let refusal = c.typed_found-1.given in
+    let late = refused_by_text w _ c.read_text-typed.result (told c.before.before.before) refusal.0.0 refusal.1 in
     record {
-      tree = (told t).tree;
-      reading = (told t).reading-1;
-      judged = turned_down _ (plan_of b) (expression_by q b) _ _ refusal.0.0 (refused_text q _ b (passed t.before) refusal.0.0 late) refl;
+      tree = (told c.before.before.before).tree;
+      reading = (told c.before.before.before).reading;
+      judged = turned_down _ (plan_of b) (expression_by q b) _ _ refusal.0.0 (refused_text q _ b (passed c.before.before.before.before) refusal.0.0 late) refl;
     }
 
 shape_of-row : tie.Need-shape_of-row
@@ -117,19 +113,15 @@ shape_of-row c = search rules
 
 returns-in-Accepted-typed_found : tie.Need-returns-in-Accepted-typed_found
 returns-in-Accepted-typed_found c =
-    let settled = c.before.before in
-    let told2 = settled.before.before.before.before.before.before.before.before.before.before in
-    let t = told2.before.before in
-    let e = t.before in
-    let b = plan_bytes t in
-    let w = text_bytes t in
-    let fine = told2.enum_told-in-Accepted-typed_found-1.given.1 in
-    let free = passed_text w _ t.read_text-typed.result (told t) fine in
-    let pattern = text_pattern w _ t.read_text-typed.result (told t) fine in
+    let b = plan_bytes c.before.before.before.before.before.before.before.before.before.before.before.before in
+    let w = text_bytes c.before.before.before.before.before.before.before.before.before.before.before.before in
+    let fine = c.enum_told-in-Accepted-typed_found-1.given.1 in
+    let free = passed_text w _ c.read_text-typed.result (told c.before.before.before.before.before.before.before.before.before.before.before.before) fine in
+    let pattern = text_pattern w _ c.read_text-typed.result (told c.before.before.before.before.before.before.before.before.before.before.before.before) fine in
     record {
-      tree = (told t).tree;
-      reading = (told t).reading-1;
-      judged = judged_late (typed w (told t).tree) b _ (passed e) free _ pattern _ _ (settled.settle_plan.ensures (plan_of b) (kept e));
+      tree = (told c.before.before.before.before.before.before.before.before.before.before.before.before).tree;
+      reading = (told c.before.before.before.before.before.before.before.before.before.before.before.before).reading;
+      judged = judged_late (typed w (told c.before.before.before.before.before.before.before.before.before.before.before.before).tree) b _ (passed c.before.before.before.before.before.before.before.before.before.before.before.before.before) free _ pattern _ _ (c.settle_plan.ensures (plan_of b) (kept c.before.before.before.before.before.before.before.before.before.before.before.before.before));
     }
 
 pub judge_text_spec : {M : Type 1} → statement M
