@@ -19,6 +19,8 @@ TOKEN = re.compile(r"--[^\n]*|//[^\n]*|\"(?:[^\"\\\n]|\\.)*\"|" + WORD)
 HEAD = re.compile(r"^(?P<in> *)(?:(?:unfoldable|abbrev|private|pub|mutual) )*(?P<what>(?:data|record) )?(?P<name>" + WORD + r")(?: *\([^)]*\)| *\{[^}]*\})* ?:(?: |$)")
 RECORD = re.compile(r"^(?P<in> *)(?:pub )?(?:record|data) ")
 
+OWN = re.compile(r"Rattle\.(?!(?:std|core|io|libc|os)\.)")
+
 # Lemmas that port.py spelled as the functions that they speak of are spelled here.
 LEMMAS = {"own_line": "own_line_lem", "short_row": "short_row_lem"}
 
@@ -82,7 +84,24 @@ def collect():
     return new, {n for n in fields if n in old}
 
 
+def not_own(text):
+    """What a file brings in from the library: these names keep their spelling there."""
+    out = set()
+    for m in re.finditer(r"(?m)^ *(?:ghost )?(?:pub )?use ([^{\n;]+)\.\{([^}]*)\}", text):
+        if not OWN.match(m.group(1)):
+            out |= {w for w in TOKEN.findall(m.group(2))}
+    return out
+
+
+def modules(text):
+    """The names by which a file calls modules of this repository."""
+    return set(re.findall(r"(?m)^ *use " + OWN.pattern + r"[\w.+]* as (\w+)", text)) | set(re.findall(r"(?m)^ *use " + OWN.pattern + r"[\w.+]*\.(\w+)$", text))
+
+
 def respell(text, names, fields):
+    names = {n: new for n, new in names.items() if n not in not_own(text)}
+    own = modules(text)
+
     def one(m):
         t = m.group(0)
         if t.startswith(("--", "//")):
@@ -90,7 +109,8 @@ def respell(text, names, fields):
         if t.startswith('"') or t not in names:
             return t
         before = text[: m.start()]
-        return t if before.endswith(".") and t not in fields else names[t]
+        base = re.search(r"(\w+)\.$", before)
+        return t if base and base.group(1) not in own and t not in fields else names[t]
 
     return TOKEN.sub(one, text)
 

@@ -3,7 +3,7 @@ use mathlib.Core.Path.{◌≡◌, refl}
 use mathlib.Core.Bool.{cond}
 use mathlib.Core.List.{List, [], ◌∷◌}
 use Prim.Native.Nat.{ℕ, ◌+◌, ◌^◌}
-use native.Mathlib.Nat.{add_zero}
+use native.Mathlib.Nat.{add-zero}
 use native.Mathlib.Omega.{arith}
 use lib.Bits.{bit_or, or_zero_r}
 use Rattle.masks.specs.Mask.{has}
@@ -17,7 +17,7 @@ use Rattle.expressions.specs.Stack.{free, follows, holdings}
 
 module _ (st : List Expression) where
   pub free_empty : free (push empty st) ≡ free st
-  free_empty = add_zero (free st)
+  free_empty = add-zero (free st)
 
   pub follows_empty : (p : ℕ) → follows (push empty st) p ≡ follows st p
   follows_empty p = or_zero_r (follows st p)

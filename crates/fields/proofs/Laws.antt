@@ -2,7 +2,7 @@
 use mathlib.Core.Path.{◌≡◌, refl, sym, ap, ◌∙◌}
 use mathlib.Core.List.{List, [], ◌∷◌, ◌++◌}
 use Prim.Native.Nat.{ℕ, zero, suc, ◌+◌, ◌-◌, ◌*◌, ◌/◌, ◌%◌, ◌^◌, ◌≤◌, ◌<◌}
-use native.Mathlib.Nat.{not-suc-le-zero, add_zero, add_suc, add_assoc, mul_assoc, pow-suc}
+use native.Mathlib.Nat.{not-suc-le-zero, add-zero, add-suc, add_assoc, mul_assoc, pow-suc}
 use native.Mathlib.Numerals.{add-one}
 use native.Mathlib.Omega.{arith}
 use lib.ListN.{length, get_or, take, drop, length-drop}
@@ -49,9 +49,9 @@ field_lt bs at (suc w) h =
 
 -- a field is its first bits, then the others
 pub field_split : (bs : List ℕ) (at m n : ℕ) → at + m + n ≤ 8 * length bs → field_at bs at (m + n) ≡ field_at bs at m * 2 ^ n + field_at bs (at + m) n
-field_split bs at m zero h = omega (arith, ap (field_at bs at) (add_zero m), field_none bs (at + m))
+field_split bs at m zero h = omega (arith, ap (field_at bs at) (add-zero m), field_none bs (at + m))
 field_split bs at m (suc n) h =
-    let more = ap (field_at bs at) (add_suc m n ∙ sym (add-one (m + n))) ∙ field_more bs at (m + n) (omega arith) in
+    let more = ap (field_at bs at) (add-suc m n ∙ sym (add-one (m + n))) ∙ field_more bs at (m + n) (omega arith) in
     let others = ap (field_at bs (at + m)) (sym (add-one n)) ∙ field_more bs (at + m) n (omega arith) in
     let same = ap (λ (p : ℕ). get_or (bits_of bs) p 0) (add_assoc at m n) in
     let twice : field_at bs at m * 2 ^ suc n ≡ field_at bs at m * 2 ^ n * 2 = rw (pow-suc) (sym (mul_assoc (field_at bs at m) (2 ^ n) 2)) in

@@ -3,7 +3,7 @@ use mathlib.Core.Path.{◌≡◌, refl, sym, ap, ap₂, subst, ◌∙◌}
 use mathlib.Core.List.{List, [], ◌∷◌, ◌++◌, map}
 use mathlib.Core.Option.{Option, none, some, none-ne-some}
 use Prim.Native.Nat.{ℕ, zero, suc, ◌+◌, ◌-◌, ◌*◌, ◌≤◌, ◌<◌}
-use native.Mathlib.Nat.{add_zero}
+use native.Mathlib.Nat.{add-zero}
 use native.Mathlib.Numerals.{add-one}
 use native.Mathlib.Omega.{arith}
 use lib.ListN.{length, set, length-append}
@@ -64,7 +64,7 @@ module _ (b : List ℕ) (alphabet : ℕ) where
 
   -- a refusal stays
   pub faulty_later : (i k n : ℕ) → read b alphabet i ≡ faulty n → read b alphabet (i + k) ≡ faulty n
-  faulty_later i zero n e = rw (add_zero i) e
+  faulty_later i zero n e = rw (add-zero i) e
   faulty_later i (suc k) n e =
       let more : i + suc k ≡ i + k + 1 = omega arith in
       ap (read b alphabet) more ∙ read_more (i + k) ∙ ap (one_more b alphabet) (faulty_later i k n e)

@@ -68,16 +68,16 @@ items_outcome none l = refl
 items_outcome (some n) l = refl
 
 module _ (b : List ℕ) (alphabet n : ℕ) where
-  outcome_is : (items.itemsReadOf b alphabet n).outcome ≡ outcome_of (items_refusal b alphabet n)
-  unfolding items.itemsReadOf
+  outcome_is : (items.items_read_of b alphabet n).outcome ≡ outcome_of (items_refusal b alphabet n)
+  unfolding items.items_read_of
   outcome_is = items_outcome (items_refusal b alphabet n) (items_in b alphabet n)
 
-  pub items_refused : (k : ℕ) → (items.itemsReadOf b alphabet n).outcome ≡ Refused k → items_refusal b alphabet n ≡ some k
+  pub items_refused : (k : ℕ) → (items.items_read_of b alphabet n).outcome ≡ Refused k → items_refusal b alphabet n ≡ some k
   items_refused k e = outcome_refused (items_refusal b alphabet n) k (sym outcome_is ∙ e)
 
-  pub items_accepted : (items.itemsReadOf b alphabet n).outcome ≡ Accepted → items_refusal b alphabet n ≡ none
+  pub items_accepted : (items.items_read_of b alphabet n).outcome ≡ Accepted → items_refusal b alphabet n ≡ none
   items_accepted e = outcome_accepted (items_refusal b alphabet n) (sym outcome_is ∙ e)
 
-  pub items_read : items_refusal b alphabet n ≡ none → items.itemsReadOf b alphabet n ≡ items.answered none (items_in b alphabet n)
-  unfolding items.itemsReadOf
+  pub items_read : items_refusal b alphabet n ≡ none → items.items_read_of b alphabet n ≡ items.answered none (items_in b alphabet n)
+  unfolding items.items_read_of
   items_read e = ap (λ (o : Option ℕ). items.answered o (items_in b alphabet n)) e

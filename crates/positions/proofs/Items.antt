@@ -84,9 +84,9 @@ module _ (d : Draft) (h : d.depth < 33) where
   empty_taken st b = record {
     places = places st b (d.depth - 0) (omega arith) _;
     stack = pushed st b (d.depth - 0) (omega arith) _ _ (masks st) refl (all st b);
-    count = omega (arith, b.count, stack.free-empty st);
-    after = row_stays 33 d.after (follows st) _ 0 b.after (stack.follows-empty st);
-    holding = row_stays 33 d.holding (holdings st) _ _ b.holding (stack.holdings-empty st);
+    count = omega (arith, b.count, stack.free_empty st);
+    after = row_stays 33 d.after (follows st) _ 0 b.after (stack.follows_empty st);
+    holding = row_stays 33 d.holding (holdings st) _ _ b.holding (stack.holdings_empty st);
   }
 
   events_taken : (m : ℕ) (st : List Expression) → DraftOf st d → DraftOf (push (events m) st) (takes (events m) d)
@@ -95,8 +95,8 @@ module _ (d : Draft) (h : d.depth < 33) where
         places = places st b (d.depth - 0) (omega arith) _;
         stack = pushed st b (d.depth - 0) (omega arith) _ _ (masks st) (ap (λ (k : ℕ). record { null = false; first = k; last = k }) at) (all st b);
         count = ap (λ (k : ℕ). k + 1) b.count;
-        after = row_stays 33 d.after (follows st) _ 0 b.after (stack.follows-events m st);
-        holding = row_gains 33 d.holding (holdings st) (holdings (push (events m) st)) m m _ _ b.holding refl at (stack.holdings-events m st);
+        after = row_stays 33 d.after (follows st) _ 0 b.after (stack.follows_events m st);
+        holding = row_gains 33 d.holding (holdings st) (holdings (push (events m) st)) m m _ _ b.holding refl at (stack.holdings_events m st);
       }
 
   -- the two newest operands, and those below
@@ -114,9 +114,9 @@ module _ (d : Draft) (h : d.depth < 33) where
       let t = pair x y st b in record {
         places = places _ b (d.depth - 2) (omega arith) _;
         stack = pushed _ b (d.depth - 2) (omega arith) _ _ (masks st) (ap₂ both_of t.0 t.1) t.2;
-        count = omega (arith, b.count, stack.free-sequence y x st);
-        after = row_gains 33 d.after (follows (y ∷ x ∷ st)) _ _ _ _ _ b.after (ap (λ (m : Masks). m.last) t.0) (ap (λ (m : Masks). m.first) t.1) (stack.follows-sequence y x st);
-        holding = row_stays 33 d.holding (holdings (y ∷ x ∷ st)) _ _ b.holding (stack.holdings-sequence y x st);
+        count = omega (arith, b.count, stack.free_sequence y x st);
+        after = row_gains 33 d.after (follows (y ∷ x ∷ st)) _ _ _ _ _ b.after (ap (λ (m : Masks). m.last) t.0) (ap (λ (m : Masks). m.first) t.1) (stack.follows_sequence y x st);
+        holding = row_stays 33 d.holding (holdings (y ∷ x ∷ st)) _ _ b.holding (stack.holdings_sequence y x st);
       }
 
   choice_taken : (x y : Expression) (st : List Expression) → DraftOf (y ∷ x ∷ st) d → DraftOf (push choice (y ∷ x ∷ st)) (takes choice d)
@@ -124,9 +124,9 @@ module _ (d : Draft) (h : d.depth < 33) where
       let t = pair x y st b in record {
         places = places _ b (d.depth - 2) (omega arith) _;
         stack = pushed _ b (d.depth - 2) (omega arith) _ _ (masks st) (ap₂ either_of t.0 t.1) t.2;
-        count = omega (arith, b.count, stack.free-choice y x st);
-        after = row_stays 33 d.after (follows (y ∷ x ∷ st)) _ 0 b.after (stack.follows-choice y x st);
-        holding = row_stays 33 d.holding (holdings (y ∷ x ∷ st)) _ _ b.holding (stack.holdings-choice y x st);
+        count = omega (arith, b.count, stack.free_choice y x st);
+        after = row_stays 33 d.after (follows (y ∷ x ∷ st)) _ 0 b.after (stack.follows_choice y x st);
+        holding = row_stays 33 d.holding (holdings (y ∷ x ∷ st)) _ _ b.holding (stack.holdings_choice y x st);
       }
 
   repeat_taken : (x : Expression) (st : List Expression) → DraftOf (x ∷ st) d → DraftOf (push repeat (x ∷ st)) (takes repeat d)
@@ -136,7 +136,7 @@ module _ (d : Draft) (h : d.depth < 33) where
         places = places _ b (d.depth - 1) (omega arith) _;
         stack = pushed _ b (d.depth - 1) (omega arith) _ _ (masks st) (ap many_of t.0) t.1;
         count = omega (arith, b.count);
-        after = row_gains 33 d.after (follows (x ∷ st)) _ _ _ _ _ b.after (ap (λ (m : Masks). m.last) t.0) (ap (λ (m : Masks). m.first) t.0) (stack.follows-repeat x st);
+        after = row_gains 33 d.after (follows (x ∷ st)) _ _ _ _ _ b.after (ap (λ (m : Masks). m.last) t.0) (ap (λ (m : Masks). m.first) t.0) (stack.follows_repeat x st);
         holding = row_stays 33 d.holding (holdings (x ∷ st)) _ _ b.holding (λ e. refl);
       }
 

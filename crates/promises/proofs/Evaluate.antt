@@ -25,7 +25,7 @@ use Rattle.verdict.specs.declared.Answer.TheVariants.{Refused}
 use Rattle.verdict.specs.Verdict.{verified}
 use Rattle.verdict.specs.Answer.{verdict}
 use Rattle.verdict.specs.Row.{written}
-use Rattle.promises.specs.Order.{Pattern, expression_by, text_refusal, many_states, short_row_lem, judgeable, late_refusal}
+use Rattle.promises.specs.Order.{Pattern, expression_by, text_refusal, many_states, short_row, judgeable, late_refusal}
 use Rattle.promises.specs.Property.{listed, numbered, states, table, accepting}
 use Rattle.promises.specs.Judged.{final_set, counts_of, Answered, Judged}
 use Rattle.promises.proofs.Refusals.{in_order, turned_down}
@@ -72,10 +72,10 @@ module _ (q : Pattern) (b : List ℕ) (places : ℕ) (passed : first (judgeable 
   past_20 : late_refusal (plan_of b) (expression_by q b) places ≡ none
   past_20 = (both_none (text_refusal q b) _ past_15.1).1
 
-  past_17 : (many_states q b ≡ false) × (short_row_lem places b ≡ false)
+  past_17 : (many_states q b ≡ false) × (short_row places b ≡ false)
   past_17 =
-      let late = both_none (refuse 16 (many_states q) b) (refuse 17 (short_row_lem places) b) past_20 in
-      (not_refused 16 (many_states q b) late.0, not_refused 17 (short_row_lem places b) late.1)
+      let late = both_none (refuse 16 (many_states q) b) (refuse 17 (short_row places) b) past_20 in
+      (not_refused 16 (many_states q b) late.0, not_refused 17 (short_row places b) late.1)
 
   long_row : (plan_of b).nodes ≤ places
   long_row = ltb-false places (plan_of b).nodes past_17.1

@@ -36,7 +36,7 @@ use Rattle.verdict.specs.Verdict.{together, final_of, Verified, fill_of}
 use Rattle.verdict.specs.Answer.{verdict_of}
 use Rattle.verdict.proofs.Rounded.{fill_no_nodes}
 use Rattle.verdict.proofs.Final.{AtExits, held_together, held_by_none, in_final, final_no_jobs}
-use Rattle.promises.specs.Order.{Pattern, expression_by, short_row_lem}
+use Rattle.promises.specs.Order.{Pattern, expression_by, short_row}
 use Rattle.promises.specs.Property.{numbered, states, table, accepting, state_after}
 use Rattle.promises.specs.Judged.{Suits, pairs, final_set, counts_of, Judged}
 use Rattle.promises.proofs.Sound.{states_known, moves_below, state_begins, state_stays, state_accepts}
@@ -94,7 +94,7 @@ module _ (p : Plan) (r : Expression) (legal : Legal p) (none_of : p.jobs ≡ [])
 -- ---- the order's sentence
 
 -- "the row may have no places": 17 is never said
-pub never_short : (b : List ℕ) → Legal (plan_of b) → (plan_of b).jobs ≡ [] → (places : ℕ) → short_row_lem places b ≡ false
+pub never_short : (b : List ℕ) → Legal (plan_of b) → (plan_of b).jobs ≡ [] → (places : ℕ) → short_row places b ≡ false
 never_short b legal none_of places = ap (ltb places) (no_nodes (plan_of b) legal none_of) ∙ le-ltb places 0 (omega arith)
 
 -- the values of the verdict, the row, and the verdict itself

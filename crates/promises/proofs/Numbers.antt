@@ -15,7 +15,7 @@ use Rattle.item.specs.Faults.{Point, cut, kind_at, set_at, item_at, is_events, s
 use Rattle.items.specs.Refusals.{Read, faulty, up_to, Spot, point_of, judged, one_more, read, not_one, trailing, refusal_of, items_refusal}
 use Rattle.grammar.specs.Meaning.{unreadable, many_items, strange_letter}
 use Rattle.pattern.specs.Refusals.{rest, bad_items, readable}
-use Rattle.promises.specs.Order.{Pattern, own, typed, text_refusal, many_states, short_row_lem, judgeable}
+use Rattle.promises.specs.Order.{Pattern, own, typed, text_refusal, many_states, short_row, judgeable}
 use Rattle.promises.proofs.Refusals.{in_order}
 
 -- ---- checks in their order
@@ -111,5 +111,5 @@ pub no_refusal_zero : (q : Pattern) (places : ℕ) (b : List ℕ) → first (jud
 no_refusal_zero q places b e =
     either_zero (first readable b) _ (readable_above b)
     (either_zero (text_refusal q b) _ (text_above q b)
-    (either_zero (refuse 16 (many_states q) b) (refuse 17 (short_row_lem places) b) (refuse_above 15 (many_states q) b) (refuse_above 16 (short_row_lem places) b)))
+    (either_zero (refuse 16 (many_states q) b) (refuse 17 (short_row places) b) (refuse_above 15 (many_states q) b) (refuse_above 16 (short_row places) b)))
     (sym (in_order q places b) ∙ e)

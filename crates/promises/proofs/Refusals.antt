@@ -16,7 +16,7 @@ use Rattle.automaton.specs.Automaton.{states_of}
 use Rattle.pattern.specs.Refusals.{readable, over_limit}
 use Rattle.verdict.specs.declared.Answer.{Answer}
 use Rattle.verdict.specs.declared.Answer.TheVariants.{Refused}
-use Rattle.promises.specs.Order.{Pattern, expression_by, text_refusal, many_states, short_row_lem, judgeable, late_refusal}
+use Rattle.promises.specs.Order.{Pattern, expression_by, text_refusal, many_states, short_row, judgeable, late_refusal}
 use Rattle.promises.specs.Judged.{Answered, Judged}
 
 -- ---- the checks in their order
@@ -25,8 +25,8 @@ module _ (q : Pattern) (places : ℕ) (b : List ℕ) where
   pub in_order : first (judgeable q places) b ≡ or_else (first readable b) (or_else (text_refusal q b) (late_refusal (plan_of b) (expression_by q b) places))
   unfolding first
   in_order =
-      first_append readable (text_refusal q ∷ refuse 16 (many_states q) ∷ refuse 17 (short_row_lem places) ∷ []) b
-      ∙ ap (λ (x : Option ℕ). or_else (first readable b) (or_else (text_refusal q b) (or_else (refuse 16 (many_states q) b) x))) (first_last [] (refuse 17 (short_row_lem places)) b)
+      first_append readable (text_refusal q ∷ refuse 16 (many_states q) ∷ refuse 17 (short_row places) ∷ []) b
+      ∙ ap (λ (x : Option ℕ). or_else (first readable b) (or_else (text_refusal q b) (or_else (refuse 16 (many_states q) b) x))) (first_last [] (refuse 17 (short_row places)) b)
 
   after : (o t : Option ℕ) → first readable b ≡ o → text_refusal q b ≡ t
       → first (judgeable q places) b ≡ or_else o (or_else t (late_refusal (plan_of b) (expression_by q b) places))

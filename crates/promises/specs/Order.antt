@@ -30,13 +30,13 @@ abbrev pub many_states : Pattern → List ℕ → Bool
 many_states q b = over_limit (states_of (expression_by q b) (plan_of b).alphabet)
 
 -- 17. "The lent row has fewer places than there are nodes."
-abbrev pub short_row_lem : (places : ℕ) → List ℕ → Bool
-short_row_lem places b = ltb places (plan_of b).nodes
+abbrev pub short_row : (places : ℕ) → List ℕ → Bool
+short_row places b = ltb places (plan_of b).nodes
 
 -- "Checked in this order": 1 to 15 and 21, of the plan and its own items; 18 to 20, "all between 15 and 16"; 16; 17. Where none applies the
 -- plan is judged
 abbrev pub judgeable : Pattern → (places : ℕ) → List (Check (List ℕ))
-judgeable q places = readable ++ (text_refusal q ∷ refuse 16 (many_states q) ∷ refuse 17 (short_row_lem places) ∷ [])
+judgeable q places = readable ++ (text_refusal q ∷ refuse 16 (many_states q) ∷ refuse 17 (short_row places) ∷ [])
 
 -- the last two, of a plan and a pattern that were read
 abbrev pub late_refusal : Plan → Expression → (places : ℕ) → Option ℕ

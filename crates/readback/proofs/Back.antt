@@ -38,7 +38,7 @@ plan_told t = record {
 }
 
 abbrev pub items_told : Tables → (count : ℕ) → List Item
-items_told t count = items.itemsOn (record { kind = t.kinds; set = t.sets; count = count })
+items_told t count = items.items_on (record { kind = t.kinds; set = t.sets; count = count })
 
 kind_back : (k : Kind) → kind_of (kind_number k) ≡ k
 kind_back Every = refl

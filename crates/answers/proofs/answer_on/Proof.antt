@@ -59,8 +59,8 @@ module _ (c : tie.After-hand_over) where
   abbrev start : tie.Start
   start = c.before.before.before.before.before.before.before
 
-  row_is : c.hand-over.new.0 ≡ handed (leb start.args.nodes (length start.args.row.now)) start.args.nodes start.args.masks.now start.args.row.now
-  row_is = c.hand-over.ensures.1 ∙ ap (λ (b : Bool). handed b start.args.nodes start.args.masks.now start.args.row.now) c.hand-over.ensures.0
+  row_is : c.hand_over.new.row ≡ handed (leb start.args.nodes (length start.args.row.now)) start.args.nodes start.args.masks.now start.args.row.now
+  row_is = c.hand_over.ensures.1 ∙ ap (λ (b : Bool). handed b start.args.nodes start.args.masks.now start.args.row.now) c.hand_over.ensures.0
 
 shape_of-row-then-hand_over : tie.Need-shape_of-row-then-hand_over
 shape_of-row-then-hand_over c = search rules
@@ -68,7 +68,7 @@ shape_of-row-then-hand_over c = search rules
 returns-then-hand_over : tie.Need-returns-then-hand_over
 returns-then-hand_over c =
     let s = start c in
-    (found c.before.before.before.before.before ∙ ap (λ (b : Bool). unless_short b (said s)) (sym c.if-hand_over.true ∙ c.hand_over.ensures.0), row_is c)
+    (found c.before.before.before.before.before ∙ ap (λ (b : Bool). unless_short b (said s)) (sym c.if-hand_over.true ∙ c.hand_over.ensures.0), row_is c.before.before.before)
 
 shape_of-row-else-hand_over : tie.Need-shape_of-row-else-hand_over
 shape_of-row-else-hand_over c = search rules
@@ -76,7 +76,7 @@ shape_of-row-else-hand_over c = search rules
 returns-else-hand_over : tie.Need-returns-else-hand_over
 returns-else-hand_over c =
     let s = start c in
-    (ap (λ (b : Bool). unless_short b (said s)) (sym c.if-hand_over.false ∙ c.hand_over.ensures.0), row_is c)
+    (ap (λ (b : Bool). unless_short b (said s)) (sym c.if-hand_over.false ∙ c.hand_over.ensures.0), row_is c.before.before.before)
 
 pub answer_on_spec : {M : Type 1} → statement M
 answer_on_spec =

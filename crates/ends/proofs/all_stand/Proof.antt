@@ -24,7 +24,7 @@ abbrev decreases-loop-i : tie.decreases-loop-i
 decreases-loop-i jobs count ending₀ i₀ ending i = count - i
 
 loop-i-init : tie.Need-loop-i-init invariant-loop-i decreases-loop-i
-loop-i-init c = (omega arith, sym (any_row_none (λ (k : ℕ). ends) (job_in c.args.t1)))
+loop-i-init c = (omega arith, sym (any_row_none (λ (k : ℕ). ends) (job_in c.args.jobs)))
 
 bounds-jobs-i : tie.Need-bounds-jobs-i invariant-loop-i decreases-loop-i
 bounds-jobs-i c = omega arith
@@ -41,13 +41,13 @@ loop-i-smaller c = omega arith
 loop-i-preserved : tie.Need-loop-i-preserved invariant-loop-i decreases-loop-i
 loop-i-preserved c =
     let loop = c.loop-i in
-    let jobs = c.args.t1 in
+    let jobs = c.args.jobs in
     (omega arith, any_turn (λ (k : ℕ). ends) (job_in jobs) loop.i loop.ending _ loop.invariant.1 (ap not c.is_standing-standing.ensures))
 
 returns : tie.Need-returns invariant-loop-i decreases-loop-i
 returns c =
-    let jobs = c.args.t1 in
-    let e : c.loop-i.i ≡ c.args.t1.count = omega arith in
+    let jobs = c.args.jobs in
+    let e : c.loop-i.i ≡ c.args.jobs.count = omega arith in
     let passed = c.loop-i.invariant.1 ∙ ap (λ (n : ℕ). any ends (row n (job_in jobs))) e in
     λ k. ltb 0 (sym (row_length (job_in jobs) jobs.count) k) && not (passed k)
 

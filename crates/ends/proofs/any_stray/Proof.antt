@@ -18,7 +18,7 @@ abbrev decreases-loop-i : tie.decreases-loop-i
 decreases-loop-i nodes owner jobs count found₀ i₀ found i = count - i
 
 loop-i-init : tie.Need-loop-i-init invariant-loop-i decreases-loop-i
-loop-i-init c = (omega arith, sym (any_row_none (stray c.args.nodes (place c.args.owner.now)) (job_in c.args.t3)))
+loop-i-init c = (omega arith, sym (any_row_none (stray c.args.nodes (place c.args.owner.now)) (job_in c.args.jobs)))
 
 bounds-jobs-i : tie.Need-bounds-jobs-i invariant-loop-i decreases-loop-i
 bounds-jobs-i c = omega arith
@@ -61,15 +61,15 @@ loop-i-preserved c =
     let args = c.args in
     let loop = c.loop-i in (
       omega arith,
-      any_turn (stray args.nodes (place args.owner.now)) (job_in args.t3) loop.i loop.found _ loop.invariant.1
-          (stray_read args.owner.now args.nodes args.t3 loop.i _ _ _ _ _ c.byte-entry.ensures.0 c.byte-exit.ensures.0 c.byte-entry_job.ensures.0 c.byte-exit_job.ensures.0 c.is_standing-standing.ensures),
+      any_turn (stray args.nodes (place args.owner.now)) (job_in args.jobs) loop.i loop.found _ loop.invariant.1
+          (stray_read args.owner.now args.nodes args.jobs loop.i _ _ _ _ _ c.byte-entry.ensures.0 c.byte-exit.ensures.0 c.byte-entry_job.ensures.0 c.byte-exit_job.ensures.0 c.is_standing-standing.ensures),
     )
 
 returns : tie.Need-returns invariant-loop-i decreases-loop-i
 returns c =
     let args = c.args in
-    let e : c.loop-i.i ≡ c.args.t3.count = omega arith in
-    c.loop-i.invariant.1 ∙ ap (λ (n : ℕ). any_numbered (stray args.nodes (place args.owner.now)) (row n (job_in c.args.t3))) e
+    let e : c.loop-i.i ≡ c.args.jobs.count = omega arith in
+    c.loop-i.invariant.1 ∙ ap (λ (n : ℕ). any_numbered (stray args.nodes (place args.owner.now)) (row n (job_in c.args.jobs))) e
 
 pub any_stray_spec : {M : Type 1} → statement M
 any_stray_spec =

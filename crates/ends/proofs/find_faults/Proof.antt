@@ -36,7 +36,7 @@ none test arc = sym (any_row_none (λ (k : ℕ). test) arc)
 
 loop-i-init : tie.Need-loop-i-init invariant-loop-i decreases-loop-i
 loop-i-init c =
-    let g = c.args.t1 in
+    let g = c.args.g in
     let owner = c.args.owner.now in (
       omega arith,
       none (apart-test g.nodes (place owner)) (arc_of c),
@@ -94,7 +94,7 @@ loop-i-smaller c = omega arith
 
 loop-i-preserved : tie.Need-loop-i-preserved invariant-loop-i decreases-loop-i
 loop-i-preserved c =
-    let g = c.args.t1 in
+    let g = c.args.g in
     let owner = c.args.owner.now in
     let arc = arc_of c.before.before.before.before.before.before.before.before.before.before.before.before.before.before.before.before in
     let loop = c.loop-i in
@@ -110,7 +110,7 @@ loop-i-preserved c =
 
 returns : tie.Need-returns invariant-loop-i decreases-loop-i
 returns c =
-    let g = c.args.t1 in
+    let g = c.args.g in
     let owner = c.args.owner.now in
     let inv = c.loop-i.invariant in
     let e : c.loop-i.i ≡ c.args.count = omega arith in

@@ -3,7 +3,7 @@
 use mathlib.Core.Path.{◌≡◌, sym, ap, ◌∙◌}
 use Prim.Native.Nat.{ℕ, ◌+◌, ◌-◌, ◌*◌, ◌^◌, ◌≤◌, ◌<◌}
 use native.Mathlib.Omega.{arith}
-use native.Mathlib.Nat.{add_zero, pow-suc}
+use native.Mathlib.Nat.{add-zero, pow-suc}
 use native.Mathlib.Numerals.{add-one}
 use lib.ListN.{length}
 use lib.Pow.{pow_mono}
@@ -62,7 +62,7 @@ returns : tie.Need-returns invariant-loop-i decreases-loop-i
 returns c =
     let args = c.args in
     let e : c.loop-i.i ≡ 31 = omega arith in
-    rw (events_all args.plan.now args.at, c.loop-i.invariant.2, e, add_zero)
+    rw (events_all args.plan.now args.at, c.loop-i.invariant.2, e, add-zero)
 
 pub events_spec : {M : Type 1} → statement M
 events_spec =

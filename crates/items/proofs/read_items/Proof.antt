@@ -32,7 +32,7 @@ abbrev count : tie.In-Accepted → ℕ
 count c = (start c).args.count
 
 abbrev scanned : (c : tie.In-Accepted) → (s : Spot) × (read (bytes c) (alphabet c) (count c) ≡ up_to s)
-scanned c = scan_up_to (read (bytes c) (alphabet c) (count c)) (sym (ap (λ (t : Scan). t.outcome) c.before.before.scan_items.ensures) ∙ c.enum_told.given.1)
+scanned c = scan_up_to (read (bytes c) (alphabet c) (count c)) (sym (ap (λ (t : Scan). t.outcome) c.scan_items-s.ensures) ∙ c.in-Accepted.is)
 
 abbrev spot : tie.In-Accepted → Spot
 spot c = (scanned c).0
@@ -77,7 +77,7 @@ none_read-requires-then-s-ne1 c κs = search rules
 returns-then-s-ne1 : tie.Need-returns-then-s-ne1
 returns-then-s-ne1 c =
     c.none_read-then-s-ne1.ensures
-    ∙ sym (answer_14 (bytes c.before.before.before) (alphabet c.before.before.before) (count c.before.before.before) (spot c.before.before.before) (scanned c).1 (ap (λ (n : ℕ). not (eqb n 1)) (sym (ap (λ (t : Scan). t.depth) (kept c.before.before.before))) ∙ ap not (ne_eqb _ _ c.if-s-ne1.true)))
+    ∙ sym (answer_14 (bytes c.before.before.before) (alphabet c.before.before.before) (count c.before.before.before) (spot c.before.before.before) (scanned c.before.before.before).1 (ap (λ (n : ℕ). not (eqb n 1)) (sym (ap (λ (t : Scan). t.depth) (kept c.before.before.before))) ∙ ap not (ne_eqb _ _ c.if-s-ne1.true)))
 
 overflow_add-bytes : tie.Need-overflow_add-bytes
 overflow_add-bytes c = omega (arith, near c.before.before)
@@ -87,7 +87,7 @@ none_read-requires-then-rest-bytes c κs = search rules
 
 returns-then-rest-bytes : tie.Need-returns-then-rest-bytes
 returns-then-rest-bytes c =
-    c.none_read-then-rest-bytes.ensures ∙ sym (answer_15 (bytes c.before.before.before.before) (alphabet c.before.before.before.before) (count c.before.before.before.before) (spot c.before.before.before.before) (scanned c).1 (one c.before.before) (trails c.before.before.before.before (trails_bytes (bytes c.before.before.before.before) (behind c.before.before.before.before) c.if-rest-bytes.true)))
+    c.none_read-then-rest-bytes.ensures ∙ sym (answer_15 (bytes c.before.before.before.before) (alphabet c.before.before.before.before) (count c.before.before.before.before) (spot c.before.before.before.before) (scanned c.before.before.before.before).1 (one c.before.before) (trails c.before.before.before.before (trails_bytes (bytes c.before.before.before.before) (behind c.before.before.before.before) c.if-rest-bytes.true)))
 
 overflow_mul-bytes : tie.Need-overflow_mul-bytes
 overflow_mul-bytes c = omega (arith, near c.before.before.before)
@@ -103,18 +103,17 @@ none_read-requires-then-field-ne0 c κs = search rules
 
 returns-then-field-ne0 : tie.Need-returns-then-field-ne0
 returns-then-field-ne0 c =
-    c.none_read-then-field-ne0.ensures ∙ sym (answer_15 (bytes c.before.before.before.before.before.before) (alphabet c.before.before.before.before.before.before) (count c.before.before.before.before.before.before) (spot c.before.before.before.before.before.before) (scanned c).1 (one c.before.before.before.before) (trails c.before.before.before.before.before.before (trails_bits (bytes c.before.before.before.before.before.before) (behind c.before.before.before.before.before.before) c.if-rest-bytes.false _ c.field.ensures c.if-field-ne0.true)))
+    c.none_read-then-field-ne0.ensures ∙ sym (answer_15 (bytes c.before.before.before.before.before.before) (alphabet c.before.before.before.before.before.before) (count c.before.before.before.before.before.before) (spot c.before.before.before.before.before.before) (scanned c.before.before.before.before.before.before).1 (one c.before.before.before.before) (trails c.before.before.before.before.before.before (trails_bits (bytes c.before.before.before.before.before.before) (behind c.before.before.before.before.before.before) c.if-rest-bytes.false _ c.field.ensures c.if-field-ne0.true)))
 
 returns-in-Refused : tie.Need-returns-in-Refused
 returns-in-Refused c =
-    let found = c.found-1.given in
-    let stuck = scan_faulty (read c.args.rest.now c.args.alphabet c.args.count) found.0.0 (sym (ap (λ (t : Scan). t.outcome) c.scan_items-s.ensures) ∙ found.1) in
+    let stuck = scan_faulty (read c.args.rest.now c.args.alphabet c.args.count) c.in-Refused.n (sym (ap (λ (t : Scan). t.outcome) c.scan_items-s.ensures) ∙ c.in-Refused.is) in
     c.none_read.ensures ∙ sym (answer_faulty c.args.rest.now c.args.alphabet c.args.count _ stuck)
 
 returns-else-field-ne0 : tie.Need-returns-else-field-ne0
 returns-else-field-ne0 c =
-    let read : ◌≡◌ {A = ItemsRead} (record { outcome = Accepted; items = c.scan_items-s.result.items }) (answered none (spot c.before.before.before.before.before.before).items) = λ i. record { outcome = Accepted; items = (kept c.before.before.before.before.before.before i).items } in
-    read ∙ sym (answer_items (bytes c.before.before.before.before.before.before) (alphabet c.before.before.before.before.before.before) (count c.before.before.before.before.before.before) (spot c.before.before.before.before.before.before) (scanned c).1 (one c.before.before.before.before) (trails c.before.before.before.before.before.before (trails_none (bytes c.before.before.before.before.before.before) (behind c.before.before.before.before.before.before) c.if-rest-bytes.false _ c.field.ensures c.if-field-ne0.false)))
+    let read : ◌≡◌ {A = ItemsRead} (record { outcome = Accepted; items = c.scan_items-s.result.items }) (answered none (spot c.before.before.before.before.before.before).items-1) = λ i. record { outcome = Accepted; items = (kept c.before.before.before.before.before.before i).items-1 } in
+    read ∙ sym (answer_items (bytes c.before.before.before.before.before.before) (alphabet c.before.before.before.before.before.before) (count c.before.before.before.before.before.before) (spot c.before.before.before.before.before.before) (scanned c.before.before.before.before.before.before).1 (one c.before.before.before.before) (trails c.before.before.before.before.before.before (trails_none (bytes c.before.before.before.before.before.before) (behind c.before.before.before.before.before.before) c.if-rest-bytes.false _ c.field.ensures c.if-field-ne0.false)))
 
 pub read_items_spec : {M : Type 1} → statement M
 read_items_spec =

@@ -16,8 +16,8 @@ use Rattle.pattern.proofs.few_states.Statement.{statement}
 use Rattle.pattern.proofs.few_states.Tie as tie
 
 -- the positions are those of the pattern
-of : (c : tie.After-positions_of-p) → Of (pattern_of (items_on c.args.t1)) c.positions_of-p.result
-of c = record { few = pattern_few c.args.t1 c.requires; table = c.positions_of-p.ensures }
+of : (c : tie.After-positions_of-p) → Of (pattern_of (items_on c.args.items)) c.positions_of-p.result
+of c = record { few = pattern_few c.args.items c.requires; table = c.positions_of-p.ensures }
 
 fits_is : (o : Option (List ℕ)) → (state_table o).fits ≡ not (over_limit o)
 fits_is none = refl
@@ -31,7 +31,7 @@ states_of-s-requires c κs = (_, (_, of c.before.before))
 
 returns : tie.Need-returns
 returns c =
-    let r = pattern_of (items_on c.args.t1) in
+    let r = pattern_of (items_on c.args.items) in
     ap (λ (s : States). s.fits) (c.states_of-s.ensures r _ (of c.before.before.before)) ∙ fits_is (states_of r c.args.alphabet)
 
 pub few_states_spec : {M : Type 1} → statement M

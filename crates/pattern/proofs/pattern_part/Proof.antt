@@ -30,7 +30,7 @@ abbrev bytes : tie.In-Accepted → List ℕ
 bytes c = c.args.plan.now
 
 passed : (c : tie.In-Accepted) → first readable (bytes c) ≡ none
-passed c = read_accepted (bytes c) (ap (λ (r : PatternRead). r.reading.outcome) (sym c.read_pattern-read.ensures.0) ∙ c.enum_told-in-Accepted-1.given.1)
+passed c = read_accepted (bytes c) (ap (λ (r : PatternRead). r.reading.outcome) (sym c.read_pattern-read.ensures.0) ∙ c.in-Accepted.is)
 
 read : (c : tie.In-Accepted) → c.read_pattern-read.result ≡ accepted (bytes c)
 read c = c.read_pattern-read.ensures.0 ∙ answer (bytes c) none (passed c)
@@ -93,9 +93,8 @@ slice_bounds-result-end-else-few_states c = omega (arith, not_empty c.before.bef
 returns-in-Refused : tie.Need-returns-in-Refused
 returns-in-Refused c =
     let b = c.args.plan.now in
-    let found = c.enum_told-1.given in
-    let e = refused_early b found.0.0 (read_refused b found.0.0 (ap (λ (r : PatternRead). r.reading.outcome) (sym c.read_pattern-read.ensures.0) ∙ found.1)) in
-    record { bytes = sym (part_is b (some found.0.0) e); block = refl; offset = omega (arith, start_is b (some found.0.0) e) }
+    let e = refused_early b c.in-Refused.field-0 (read_refused b c.in-Refused.field-0 (ap (λ (r : PatternRead). r.reading.outcome) (sym c.read_pattern-read.ensures.0) ∙ c.in-Refused.is)) in
+    record { bytes = sym (part_is b (some c.in-Refused.field-0) e); block = refl; offset = omega (arith, start_is b (some c.in-Refused.field-0) e) }
 
 returns-then-few_states : tie.Need-returns-then-few_states
 returns-then-few_states c =

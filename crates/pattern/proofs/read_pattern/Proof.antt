@@ -29,7 +29,7 @@ abbrev bytes : tie.In-Accepted → List ℕ
 bytes c = c.args.plan.now
 
 passed : (c : tie.In-Accepted) → first order (bytes c) ≡ none
-passed c = order_accepted (bytes c) (ap (λ (r : Reading). r.outcome) (sym c.read_plan-reading.ensures.0) ∙ c.enum_told-1.given.1)
+passed c = order_accepted (bytes c) (ap (λ (r : Reading). r.outcome) (sym c.read_plan-reading.ensures.0) ∙ c.in-Accepted.is)
 
 plan_read : (c : tie.In-Accepted) → c.read_plan-reading.result ≡ plan.accepted (bytes c)
 plan_read c = c.read_plan-reading.ensures.0 ∙ reading_is (bytes c) none (passed c)
@@ -59,10 +59,10 @@ slice_bounds-read_items-end : tie.Need-slice_bounds-read_items-end
 slice_bounds-read_items-end c = search rules
 
 read_items-read-requires : tie.Need-read_items-read-requires
-read_items-read-requires c κs = rw (ap (λ (r : Reading). r.plan.items) (plan_read c.before.before)) (legal (bytes c.before.before) (passed c.before.before)).items
+read_items-read-requires c κs = rw (ap (λ (r : Reading). r.plan.items) (plan_read c.before.before)) (legal (bytes c.before.before) (passed c.before.before)).items-1
 
 -- the reader of items receives the plan from the pattern's byte on
-items_found : (c : tie.After-read_items-read) → c.read_items-read.result ≡ items_read_of (rest (bytes c.before.before.before)) (plan_of (bytes c.before.before.before)).alphabet (plan_of (bytes c.before.before.before)).items
+items_found : (c : tie.After-read_items-read) → c.read_items-read.result ≡ items_read_of (rest (bytes c.before.before.before)) (plan_of (bytes c.before.before.before)).alphabet (plan_of (bytes c.before.before.before)).items-1
 items_found c =
     let b = bytes c.before.before.before in
     let r = c.read_plan-reading.result in
@@ -82,21 +82,19 @@ enum_told-in-Accepted-items_found c = search rules
 returns-in-Refused : tie.Need-returns-in-Refused
 returns-in-Refused c =
     let b = c.args.plan.now in
-    let found = c.found-1.given in
-    let refused = order_refused b found.0.0 (ap (λ (r : Reading). r.outcome) (sym c.read_plan-reading.ensures.0) ∙ found.1) in
-    (c.turned_down.ensures ∙ sym (answer_order b found.0.0 refused), c.read_plan-reading.ensures.1)
+    let refused = order_refused b c.in-Refused.n (ap (λ (r : Reading). r.outcome) (sym c.read_plan-reading.ensures.0) ∙ c.in-Refused.is) in
+    (c.turned_down.ensures ∙ sym (answer_order b c.in-Refused.n refused), c.read_plan-reading.ensures.1)
 
 returns-in-Refused-items_found : tie.Need-returns-in-Refused-items_found
 returns-in-Refused-items_found c =
-    let found = c.items_found-1.given in
-    let refused = items_refused (rest (bytes c.before.before.before.before.before.before.before)) _ _ found.0.0 (ap (λ (x : ItemsRead). x.outcome) (sym (items_found c.before.before.before.before)) ∙ found.1) in
-    (c.turned_down-in-Refused-items_found.ensures ∙ sym (answer_items (bytes c.before.before.before.before.before.before.before) (passed c.before.before.before.before.before.before.before) found.0.0 refused), c.read_plan-reading.ensures.1)
+    let refused = items_refused (rest (bytes c.before.before.before.before.before.before.before)) _ _ c.in-Refused-items_found.n (ap (λ (x : ItemsRead). x.outcome) (sym (items_found c.before.before.before.before)) ∙ c.in-Refused-items_found.is) in
+    (c.turned_down-in-Refused-items_found.ensures ∙ sym (answer_items (bytes c.before.before.before.before.before.before.before) (passed c.before.before.before.before.before.before.before) c.in-Refused-items_found.n refused), c.read_plan-reading.ensures.1)
 
 returns-in-Accepted-items_found : tie.Need-returns-in-Accepted-items_found
 returns-in-Accepted-items_found c =
-    let fine = items_accepted (rest (bytes c.before.before.before.before.before.before)) (plan_of (bytes c.before.before.before.before.before.before)).alphabet (plan_of (bytes c.before.before.before.before.before.before)).items (ap (λ (x : ItemsRead). x.outcome) (sym (items_found c.before.before.before)) ∙ c.enum_told-in-Accepted-items_found-1.given.1) in
-    let read = items_found c.before.before.before ∙ items_read (rest (bytes c.before.before.before.before.before.before)) (plan_of (bytes c.before.before.before.before.before.before)).alphabet (plan_of (bytes c.before.before.before.before.before.before)).items fine in
-    let whole : ◌≡◌ {A = PatternRead} (record { reading = c.read_plan-reading.result; items = c.read_items-read.result.items }) (accepted (bytes c.before.before.before.before.before.before)) = λ i. record { reading = plan_read c.before.before.before.before.before.before i; items = (read i).items } in
+    let fine = items_accepted (rest (bytes c.before.before.before.before.before.before)) (plan_of (bytes c.before.before.before.before.before.before)).alphabet (plan_of (bytes c.before.before.before.before.before.before)).items-1 (ap (λ (x : ItemsRead). x.outcome) (sym (items_found c.before.before.before)) ∙ c.in-Accepted-items_found.is) in
+    let read = items_found c.before.before.before ∙ items_read (rest (bytes c.before.before.before.before.before.before)) (plan_of (bytes c.before.before.before.before.before.before)).alphabet (plan_of (bytes c.before.before.before.before.before.before)).items-1 fine in
+    let whole : ◌≡◌ {A = PatternRead} (record { reading = c.read_plan-reading.result; items = c.read_items-read.result.items }) (accepted (bytes c.before.before.before.before.before.before)) = λ i. record { reading = plan_read c.before.before.before.before.before.before i; items = (read i).items-1 } in
     (whole ∙ sym (answer_none (bytes c.before.before.before.before.before.before) (passed c.before.before.before.before.before.before) fine), c.read_plan-reading.ensures.1)
 
 pub read_pattern_spec : {M : Type 1} → statement M

@@ -40,8 +40,8 @@ counted : (c : tie.Else-counts_outside) → Ranged c.read_head-h.result
 counted c = ranged _ (told c.counts_outside.ensures c.if-counts_outside.false)
 
 -- where the sections end
-ended : (c : tie.After-end_of-end) → c.end_of_lem.result ≡ end_at (head_of (bytes (long_enough c.before)))
-ended c = c.end_of_lem.ensures ∙ ap end_at c.read_head-h.ensures
+ended : (c : tie.After-end_of-end) → c.end_of-end.result ≡ end_at (head_of (bytes (long_enough c.before)))
+ended c = c.end_of-end.ensures ∙ ap end_at c.read_head-h.ensures
 
 -- refusals 3 and 4, from there
 abbrev short_of : List ℕ → ℕ → Bool
@@ -74,7 +74,7 @@ end_of-end-requires : tie.Need-end_of-end-requires
 end_of-end-requires c κs = let r = counted c in (r.jobs, r.steps, r.channels, r.calls, r.accepts)
 
 overflow_add-bytes : tie.Need-overflow_add-bytes
-overflow_add-bytes c = omega (arith, counted c.before, c.end_of_lem.ensures)
+overflow_add-bytes c = omega (arith, counted c.before, c.end_of-end.ensures)
 
 returns-then-plan-bytes : tie.Need-returns-then-plan-bytes
 returns-then-plan-bytes c =
@@ -82,13 +82,13 @@ returns-then-plan-bytes c =
     sym (ap outcome_of (framing_3 b (long (long_enough c.before.before)) (inside c.before.before) (ap (short_of b) (sym (ended c.before)) ∙ lt-ltb _ _ c.if-plan-bytes.true)))
 
 overflow_mul-bytes : tie.Need-overflow_mul-bytes
-overflow_mul-bytes c = omega (arith, counted c.before.before, c.end_of_lem.ensures)
+overflow_mul-bytes c = omega (arith, counted c.before.before, c.end_of-end.ensures)
 
 overflow_sub-bytes : tie.Need-overflow_sub-bytes
 overflow_sub-bytes c = search rules
 
 field-requires : tie.Need-field-requires
-field-requires c κs = omega (arith, counted c.before.before, c.end_of_lem.ensures, c.if-plan-bytes.false)
+field-requires c κs = omega (arith, counted c.before.before, c.end_of-end.ensures, c.if-plan-bytes.false)
 
 returns-then-field-ne0 : tie.Need-returns-then-field-ne0
 returns-then-field-ne0 c =

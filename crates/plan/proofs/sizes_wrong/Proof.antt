@@ -25,7 +25,7 @@ abbrev decreases-loop-i : tie.decreases-loop-i
 decreases-loop-i nodes jobs count empty₀ sum₀ i₀ empty sum i = count - i
 
 loop-i-init : tie.Need-loop-i-init invariant-loop-i decreases-loop-i
-loop-i-init c = (omega arith, sym (any_row_none zero_size (job_in c.args.t2)), sym (total_none (job_in c.args.t2)), omega arith)
+loop-i-init c = (omega arith, sym (any_row_none zero_size (job_in c.args.jobs)), sym (total_none (job_in c.args.jobs)), omega arith)
 
 offset_bounds-jobs-i : tie.Need-offset_bounds-jobs-i invariant-loop-i decreases-loop-i
 offset_bounds-jobs-i c = omega arith
@@ -47,7 +47,7 @@ loop-i-smaller c = omega arith
 
 loop-i-preserved : tie.Need-loop-i-preserved invariant-loop-i decreases-loop-i
 loop-i-preserved c =
-    let jobs = c.args.t2 in
+    let jobs = c.args.jobs in
     let loop = c.loop-i in
     let w = c.wide-size.ensures in
     let more = total_more (job_in jobs) loop.i in (
@@ -61,10 +61,10 @@ returns : tie.Need-returns invariant-loop-i decreases-loop-i
 returns c =
     let args = c.args in
     let inv = c.loop-i.invariant in
-    let e : c.loop-i.i ≡ c.args.t2.count = omega arith in
-    let found : (c.loop-i.empty || not (eqb c.loop-i.sum args.nodes)) ≡ sizes_wrong args.nodes (row c.loop-i.i (job_in args.t2)) =
+    let e : c.loop-i.i ≡ c.args.jobs.count = omega arith in
+    let found : (c.loop-i.empty || not (eqb c.loop-i.sum args.nodes)) ≡ sizes_wrong args.nodes (row c.loop-i.i (job_in args.jobs)) =
     λ k. inv.1 k || not (eqb (inv.2 k) args.nodes) in
-    found ∙ ap (λ (n : ℕ). sizes_wrong args.nodes (row n (job_in args.t2))) e
+    found ∙ ap (λ (n : ℕ). sizes_wrong args.nodes (row n (job_in args.jobs))) e
 
 pub sizes_wrong_spec : {M : Type 1} → statement M
 sizes_wrong_spec =

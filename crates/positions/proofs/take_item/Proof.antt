@@ -20,16 +20,16 @@ take_repeat-requires : tie.Need-take_repeat-requires
 take_repeat-requires c κs = search rules
 
 returns-in-0 : tie.Need-returns-in-0
-returns-in-0 c = rw c.in-0.keys1 c.take_empty.ensures
+returns-in-0 c = rw c.in-0.is c.take_empty.ensures
 
 returns-in-1 : tie.Need-returns-in-1
-returns-in-1 c = rw c.in-0.keys2 c.take_events.ensures
+returns-in-1 c = rw c.in-1.is c.take_events.ensures
 
 returns-in-2 : tie.Need-returns-in-2
-returns-in-2 c = rw c.in-0.keys3 c.take_sequence.ensures
+returns-in-2 c = rw c.in-2.is c.take_sequence.ensures
 
 returns-in-3 : tie.Need-returns-in-3
-returns-in-3 c = rw c.in-0.keys4 c.take_choice.ensures
+returns-in-3 c = rw c.in-3.is c.take_choice.ensures
 
 returns-in_default : tie.Need-returns-in_default
 returns-in_default c =

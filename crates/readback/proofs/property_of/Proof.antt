@@ -26,7 +26,7 @@ abbrev bytes : tie.In-Accepted → List ℕ
 bytes c = c.args.plan.now
 
 passed : (c : tie.In-Accepted) → first readable (bytes c) ≡ none
-passed c = read_accepted (bytes c) (ap (λ (r : PatternRead). r.reading.outcome) (sym c.read_pattern-read.ensures.0) ∙ c.enum_told-1.given.1)
+passed c = read_accepted (bytes c) (ap (λ (r : PatternRead). r.reading.outcome) (sym c.read_pattern-read.ensures.0) ∙ c.in-Accepted.is)
 
 read : (c : tie.In-Accepted) → c.read_pattern-read.result ≡ accepted (bytes c)
 read c = c.read_pattern-read.ensures.0 ∙ answer (bytes c) none (passed c)
@@ -47,8 +47,8 @@ property_under-requires c κs =
 returns-in-Refused : tie.Need-returns-in-Refused
 returns-in-Refused c =
     let b = c.args.plan.now in
-    let n = c.found-1.given.0.0 in
-    let e = read_refused b n (ap (λ (r : PatternRead). r.reading.outcome) (sym c.read_pattern-read.ensures.0) ∙ c.found-1.given.1) in
+    let n = c.in-Refused.n in
+    let e = read_refused b n (ap (λ (r : PatternRead). r.reading.outcome) (sym c.read_pattern-read.ensures.0) ∙ c.in-Refused.is) in
     (sym (ap number_of (refused_early b n e)), sym (property_told b (some n) e _))
 
 returns-in-Accepted : tie.Need-returns-in-Accepted

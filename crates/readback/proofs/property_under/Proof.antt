@@ -27,13 +27,13 @@ use Rattle.readback.proofs.property_under.Tie as tie
 
 -- the pattern, and its positions
 abbrev pattern : tie.Start → Expression
-pattern c = pattern_of (items_on c.args.t1)
+pattern c = pattern_of (items_on c.args.items)
 
 abbrev start : tie.After-states_of-s → tie.Start
-start c = c.before.before.before.before.before.before.before.before
+start c = c.before.before.before.before.before.before
 
 of : (c : tie.After-states_of-s) → Of (pattern (start c)) c.positions_of-p.result
-of c = record { few = pattern_few (start c).args.t1 (start c).requires; table = c.positions_of-p.ensures }
+of c = record { few = pattern_few (start c).args.items (start c).requires; table = c.positions_of-p.ensures }
 
 ends_are : (c : tie.After-states_of-s) → c.positions_of-p.result.last ≡ final (pattern (start c))
 ends_are c = ap (λ (p : Positions). p.last) (of c).table
@@ -60,7 +60,7 @@ positions_of-p-requires c κs = search rules
 
 states_of-s-requires : tie.Need-states_of-s-requires
 states_of-s-requires c κs =
-    (_, (_, record { few = pattern_few c.args.t1 c.requires; table = c.positions_of-p.ensures }))
+    (_, (_, record { few = pattern_few c.args.items c.requires; table = c.positions_of-p.ensures }))
 
 accepting_of-accepting-requires : tie.Need-accepting_of-accepting-requires
 accepting_of-accepting-requires c κs =

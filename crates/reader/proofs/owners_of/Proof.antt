@@ -20,21 +20,21 @@ decreases-loop-i jobs count owner₀ at₀ i₀ owner at i = count - i
 
 loop-i-init : tie.Need-loop-i-init invariant-loop-i decreases-loop-i
 unfolding padded row owners_from
-loop-i-init c = (omega arith, refl, sym (total_none (job_in c.args.t1)))
+loop-i-init c = (omega arith, refl, sym (total_none (job_in c.args.jobs)))
 
 -- what stands before the nodes of this turn's job
-passed : (c : tie.In-loop-i invariant-loop-i decreases-loop-i) → take c.loop-i.at c.loop-i.owner ≡ owners (row c.loop-i.i (job_in c.args.t1))
+passed : (c : tie.In-loop-i invariant-loop-i decreases-loop-i) → take c.loop-i.at c.loop-i.owner ≡ owners (row c.loop-i.i (job_in c.args.jobs))
 passed c =
     let loop = c.loop-i in
-    let xs = owners (row c.loop-i.i (job_in c.args.t1)) in
-    ap (take loop.at) loop.invariant.1 ∙ take_padded xs loop.at (owners_total (row loop.i (job_in c.args.t1)) ∙ sym loop.invariant.2)
+    let xs = owners (row c.loop-i.i (job_in c.args.jobs)) in
+    ap (take loop.at) loop.invariant.1 ∙ take_padded xs loop.at (owners_total (row loop.i (job_in c.args.jobs)) ∙ sym loop.invariant.2)
 
 -- and its nodes are some of all
-room : (c : tie.In-loop-i invariant-loop-i decreases-loop-i) → c.loop-i.at + (job_in c.args.t1 c.loop-i.i).size ≤ 256
+room : (c : tie.In-loop-i invariant-loop-i decreases-loop-i) → c.loop-i.at + (job_in c.args.jobs c.loop-i.i).size ≤ 256
 room c =
-    let g = job_in c.args.t1 in
+    let g = job_in c.args.jobs in
     let i = c.loop-i.i in
-    let most = total_le g (i + 1) c.args.t1.count (omega arith) in
+    let most = total_le g (i + 1) c.args.jobs.count (omega arith) in
     omega (arith, total_more g i, c.requires.1, c.loop-i.invariant.2)
 
 offset_bounds-jobs-i : tie.Need-offset_bounds-jobs-i invariant-loop-i decreases-loop-i
@@ -52,7 +52,7 @@ overflow_cast-i c = omega arith
 own-requires : tie.Need-own-requires invariant-loop-i decreases-loop-i
 own-requires c κs =
     let loop = c.loop-i in
-    let jobs = row loop.i (job_in c.args.t1) in (
+    let jobs = row loop.i (job_in c.args.jobs) in (
       omega (arith, room c.before.before.before, c.wide-size.ensures.0),
       loop.invariant.1 ∙ ap (padded 256) (sym (passed c.before.before.before)),
       ap length (passed c.before.before.before) ∙ owners_total jobs ∙ sym loop.invariant.2,
@@ -70,7 +70,7 @@ loop-i-smaller c = omega arith
 loop-i-preserved : tie.Need-loop-i-preserved invariant-loop-i decreases-loop-i
 loop-i-preserved c =
     let loop = c.loop-i in
-    let g = job_in c.args.t1 in
+    let g = job_in c.args.jobs in
     let size = c.wide-size.ensures.0 in (
       omega arith,
       c.own.ensures ∙ ap (λ xs. padded 256 (xs ++ replicate c.wide-size.result loop.i)) (passed c.before.before.before.before)
@@ -81,8 +81,8 @@ loop-i-preserved c =
 
 returns : tie.Need-returns invariant-loop-i decreases-loop-i
 returns c =
-    let e : c.loop-i.i ≡ c.args.t1.count = omega arith in
-    c.loop-i.invariant.1 ∙ ap (λ (n : ℕ). padded 256 (owners (row n (job_in c.args.t1)))) e
+    let e : c.loop-i.i ≡ c.args.jobs.count = omega arith in
+    c.loop-i.invariant.1 ∙ ap (λ (n : ℕ). padded 256 (owners (row n (job_in c.args.jobs)))) e
 
 pub owners_of_spec : {M : Type 1} → statement M
 owners_of_spec =

@@ -11,7 +11,7 @@ use Rattle.reader.proofs.read_plan.Tie as tie
 
 -- the bytes passed refusals 1 to 4
 passed : (c : tie.In-Accepted) → first framing c.args.plan.now ≡ none
-passed c = outcome_accepted (first framing c.args.plan.now) (sym c.framed-found.ensures ∙ c.enum_told-1.given.1)
+passed c = outcome_accepted (first framing c.args.plan.now) (sym c.framed-found.ensures ∙ c.in-Accepted.is)
 
 framed-found-requires : tie.Need-framed-found-requires
 framed-found-requires c κs = search rules
@@ -31,9 +31,8 @@ read_sections-requires c κs = (passed c.before, c.requires)
 returns-in-Refused : tie.Need-returns-in-Refused
 returns-in-Refused c =
     let b = c.args.plan.now in
-    let found = c.found-1.given in
-    let refused = outcome_refused (first framing b) found.0.0 (sym c.framed-found.ensures ∙ found.1) in
-    (c.turned_down.ensures ∙ sym (reading_is b _ (order_refused b found.0.0 refused)), words_are b _ _ _ refused refl)
+    let refused = outcome_refused (first framing b) c.in-Refused.n (sym c.framed-found.ensures ∙ c.in-Refused.is) in
+    (c.turned_down.ensures ∙ sym (reading_is b _ (order_refused b c.in-Refused.n refused)), words_are b _ _ _ refused refl)
 
 returns-in-Accepted : tie.Need-returns-in-Accepted
 returns-in-Accepted c =

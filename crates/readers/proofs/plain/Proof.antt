@@ -16,10 +16,10 @@ use Rattle.readers.proofs.plain.Tie as tie
 abbrev start : tie.In-Next → tie.Start
 start c = c.before.before.before.before.before
 
-ended : (c : tie.In-Next) → let a = (start c).args in Ends (leaf (drop a.at a.text.now)) a.text.now a.at (Next c.leaf-1.given.0.0)
+ended : (c : tie.In-Next) → let a = (start c).args in Ends (leaf (drop a.at a.text.now)) a.text.now a.at (Next c.in-Next.end)
 ended c =
     let a = (start c).args in
-    subst (λ (e : End). Ends (leaf (drop a.at a.text.now)) a.text.now a.at e) c.leaf-1.given.1 c.leaf_end-leaf.ensures
+    subst (λ (e : End). Ends (leaf (drop a.at a.text.now)) a.text.now a.at e) c.in-Next.is c.leaf_end-leaf.ensures
 
 room : (c : tie.In-Next) → (start c).args.count < length (start c).args.order.now
 room c = omega (arith, (ended c).2, (ended c).3, (start c).requires.0.bytes, (start c).requires.0.places, (start c).requires.0.fewer)
@@ -63,7 +63,7 @@ overflow_add-result-in-Next-2 c =
 
 returns-in-Broken : tie.Need-returns-in-Broken
 returns-in-Broken c =
-    unfit c.requires.1 (subst (λ (e : End). Ends (leaf (drop c.args.at c.args.text.now)) c.args.text.now c.args.at e) c.enum_told-1.given.1 c.leaf_end-leaf.ensures)
+    unfit c.requires.1 (subst (λ (e : End). Ends (leaf (drop c.args.at c.args.text.now)) c.args.text.now c.args.at e) c.in-Broken.is c.leaf_end-leaf.ensures)
 
 returns-in-Next : tie.Need-returns-in-Next
 returns-in-Next c =

@@ -43,19 +43,19 @@ module _ (c : tie.In-loop-order invariant-loop-order decreases-loop-order) where
   start = c.before.before.before.before
 
   abbrev here : ℕ
-  here = start.args.from + c.before.before.loop.k
+  here = start.args.from + c.loop-order.k
 
   star : starts_with asterisk (drop here start.args.text.now) ≡ true
-  star = sym c.before.is_at.ensures ∙ c.if1.true
+  star = sym c.is_at.ensures ∙ c.loop-order-test.true
 
   within : here < length start.args.text.now
   within = starts_within asterisk start.args.text.now here star
 
   short : length start.args.text.now ≤ 255
-  short = start.pre.0.bytes
+  short = start.requires.0.bytes
 
   fewer : start.args.already ≤ start.args.from
-  fewer = start.pre.0.fewer
+  fewer = start.requires.0.fewer
 
 overflow_add-order : tie.Need-overflow_add-order invariant-loop-order decreases-loop-order
 overflow_add-order c = omega (arith, within c, short c)
@@ -67,29 +67,29 @@ overflow_add-order-in-loop-order : tie.Need-overflow_add-order-in-loop-order inv
 overflow_add-order-in-loop-order c = omega (arith, within c, short c, fewer c)
 
 bounds-order-already : tie.Need-bounds-order-already invariant-loop-order decreases-loop-order
-bounds-order-already c = omega (arith, within c, short c, fewer c)
+bounds-order-already c = omega (arith, within c.before, short c.before, fewer c.before)
 
 overflow_add-k : tie.Need-overflow_add-k invariant-loop-order decreases-loop-order
-overflow_add-k c = omega (arith, within c, short c)
+overflow_add-k c = omega (arith, within c.before, short c.before)
 
 loop-order-smaller : tie.Need-loop-order-smaller invariant-loop-order decreases-loop-order
-loop-order-smaller c = omega (arith, within c)
+loop-order-smaller c = omega (arith, within c.before)
 
 loop-order-preserved : tie.Need-loop-order-preserved invariant-loop-order decreases-loop-order
 loop-order-preserved c =
     let args = (start c).args in
     let loop = c.loop-order in
     let n = args.already + loop.k in
-    let e : here c + 1 ≡ args.from + (loop.k + 1) = omega arith in
+    let e : here c.before + 1 ≡ args.from + (loop.k + 1) = omega arith in
     let m : n + 1 ≡ args.already + (loop.k + 1) = omega arith in
-    let room : n < length loop.order = omega (arith, within c, short c, fewer c, loop.invariant.1) in (
-      omega (arith, within c),
-      length-set loop.order n (here c) ∙ loop.invariant.1,
+    let room : n < length loop.order = omega (arith, within c.before, short c.before, fewer c.before, loop.invariant.1) in (
+      omega (arith, within c.before),
+      length-set loop.order n (here c.before) ∙ loop.invariant.1,
       λ t.
           let so = loop.invariant.2 t in (
             starred so.0,
-            so.1 ∙ star_more so.0 args.text.now (here c) (star c) ∙ ap (λ (i : ℕ). stars (starred so.0) (drop i args.text.now)) e,
-            subst (λ (i : ℕ). Continued args.text.now args.order.now args.already (set loop.order n (here c)) i t (starred so.0)) m (starred_on (here c) room (star c) so.2),
+            so.1 ∙ star_more so.0 args.text.now (here c.before) (star c.before) ∙ ap (λ (i : ℕ). stars (starred so.0) (drop i args.text.now)) e,
+            subst (λ (i : ℕ). Continued args.text.now args.order.now args.already (set loop.order n (here c.before)) i t (starred so.0)) m (starred_on (here c.before) room (star c.before) so.2),
           ),
     )
 

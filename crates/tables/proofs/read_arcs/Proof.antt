@@ -34,22 +34,22 @@ next c = let args = c.args in arc_at args.plan.now args.width (args.at + (16 + a
 -- its parts are numbers of a byte
 module _ (c : tie.After-field-arc invariant-loop-i decreases-loop-i) where
   abbrev width : ℕ
-  width = c.before.before.before.before.args.width
+  width = c.args.width
 
-  parts : (c.field.result / 2 ^ (8 + width) ≡ (next c).from) × (c.field.result / 2 ^ width % 2 ^ 8 ≡ (next c).to) × (c.field.result % (1 * 2 ^ width % 2 ^ 64) ≡ (next c).label)
+  parts : (c.field-arc.result / 2 ^ (8 + width) ≡ (next c).from) × (c.field-arc.result / 2 ^ width % 2 ^ 8 ≡ (next c).to) × (c.field-arc.result % (1 * 2 ^ width % 2 ^ 64) ≡ (next c).label)
   parts =
-      let args = c.before.before.before.before.args in
-      arc_parts args.plan.now args.width (args.at + (16 + args.width) * c.before.before.loop.i) c.field.result (omega arith) (omega (arith, room c.before)) c.field.ensures
+      let args = c.args in
+      arc_parts args.plan.now args.width (args.at + (16 + args.width) * c.loop-i.i) c.field-arc.result (omega arith) (omega (arith, room c.before)) c.field-arc.ensures
 
   from_fits : (next c).from < 2 ^ 8
   from_fits =
-      let args = c.before.before.before.before.args in
-      field_lt args.plan.now (args.at + (16 + args.width) * c.before.before.loop.i) 8 (omega (arith, room c.before))
+      let args = c.args in
+      field_lt args.plan.now (args.at + (16 + args.width) * c.loop-i.i) 8 (omega (arith, room c.before))
 
   label_fits : (next c).label < 2 ^ 8
   label_fits =
-      let args = c.before.before.before.before.args in
-      omega (arith, field_lt args.plan.now (args.at + (16 + args.width) * c.before.before.loop.i + 16) args.width (omega (arith, room c.before)), pow_mono {i = args.width} {j = 8} (omega arith))
+      let args = c.args in
+      omega (arith, field_lt args.plan.now (args.at + (16 + args.width) * c.loop-i.i + 16) args.width (omega (arith, room c.before)), pow_mono {i = args.width} {j = 8} (omega arith))
 
 overflow_add-width : tie.Need-overflow_add-width invariant-loop-i decreases-loop-i
 overflow_add-width c = omega arith
@@ -115,7 +115,7 @@ loop-i-preserved : tie.Need-loop-i-preserved invariant-loop-i decreases-loop-i
 loop-i-preserved c =
     let loop = c.loop-i in (
       omega arith,
-      packed_more _ _ _ loop.i loop.words _ _ _ loop.invariant.1 (omega (arith, loop.invariant.1.long, c.requires)) (parts c).0 (parts c).1 (parts c).2 (omega (arith, (parts c).0, from_fits c)) (omega arith),
+      packed_more _ _ _ loop.i loop.words _ _ _ loop.invariant.1 (omega (arith, loop.invariant.1.long, c.requires)) (parts c.before).0 (parts c.before).1 (parts c.before).2 (omega (arith, (parts c.before).0, from_fits c.before)) (omega arith),
     )
 
 returns : tie.Need-returns invariant-loop-i decreases-loop-i

@@ -26,13 +26,13 @@ abbrev order : tie.In-Next → List ℕ
 order c = c.read_choice-read.new.1.0
 
 abbrev end : tie.In-Next → ℕ
-end c = c.read-1.given.0.0
+end c = c.in-Next.end
 
 abbrev count : tie.In-Next → ℕ
-count c = c.read-1.given.0.1.0
+count c = c.in-Next.count
 
 came : (c : tie.In-Next) → Came (text c) (order c) (end c) (count c)
-came c = subst (λ (r : Reached). Read (text c) (order c) r) c.read-1.given.1 c.read_choice-read.ensures
+came c = subst (λ (r : Reached). Read (text c) (order c) r) c.in-Next.is c.read_choice-read.ensures
 
 short : (c : tie.In-Next) → length (text c) ≤ 255
 short c = omega arith
@@ -67,8 +67,7 @@ none_read-requires-in_default c κs = search rules
 returns-in_default : tie.Need-returns-in_default
 returns-in_default c =
     let a = c.args in
-    let chosen = c.read_choice-read in
-    broken_text a.text.now a.alphabet (subst (λ (r : Reached). Read a.text.now chosen.new.1.0 r) c.enum_told-1.given.1 chosen.ensures) c.none_read-in_default.ensures
+    broken_text a.text.now a.alphabet (subst (λ (r : Reached). Read a.text.now c.read_choice-read.new.1.0 r) c.in_default.is c.read_choice-read.ensures) c.none_read-in_default.ensures
 
 none_read-requires-then-end-text : tie.Need-none_read-requires-then-end-text
 none_read-requires-then-end-text c κs = search rules
