@@ -1,4 +1,6 @@
 // The answer on the sets at the nodes of a plan, and the row as it is handed back.
+#![tactic(auto)]
+
 ghost use Rattle.std.specs.Prelude.{◌≡◌, ◌≤◌, leb, length};
 ghost use Rattle.verdict.specs.Verdict.{verified};
 ghost use Rattle.verdict.specs.Answer.{verdict};

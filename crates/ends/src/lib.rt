@@ -1,4 +1,6 @@
 // Refusals 6, 21, and 7 to 9, behind the sizes of the jobs: entries and exits, whether a job ends, and the ends of arcs.
+#![tactic(auto)]
+
 ghost use Rattle.std.specs.Prelude.{◌≡◌, ◌+◌, ◌≤◌};
 ghost use Rattle.rows.specs.Rows.{place};
 ghost use Rattle.sections.specs.Plan.{Plan};

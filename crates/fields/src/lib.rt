@@ -1,4 +1,6 @@
 // Fields of the bit-packed plan.
+#![tactic(auto)]
+
 ghost use Rattle.std.specs.Prelude.{◌≡◌, ◌+◌, ◌*◌, ◌≤◌, ◌<◌, length};
 ghost use Rattle.fields.specs.Bits.{field_at, events_at};
 

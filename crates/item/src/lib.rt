@@ -1,4 +1,6 @@
 // One item of a pattern: its bits, its operands, and the refusals 10 to 13.
+#![tactic(auto)]
+
 ghost use Rattle.std.specs.Prelude.{◌≡◌, ◌≤◌};
 ghost use Rattle.std.proofs.Math.Option.{some};
 ghost use Rattle.expressions.specs.Items.{empty, arity};

@@ -1,4 +1,6 @@
 // The reader of the items of a pattern: the refusals 10 to 15, or the items.
+#![tactic(auto)]
+
 ghost use Rattle.std.specs.Prelude.{◌≡◌, ◌≤◌, []};
 ghost use Rattle.std.proofs.Math.Option.{some};
 ghost use Rattle.items.specs.Refusals.{faulty, read};

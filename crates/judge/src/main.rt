@@ -1,39 +1,48 @@
 // Reads one plan from standard input, up to 4,096 bytes of it, and prints the line of its answer. An argument is a text, by which the
 // plan is judged in place of its own items; with more than one nothing is judged.
+#![tactic(auto)]
+
 ghost use Rattle.std.specs.Prelude.{◌≤◌};
 
-use libc::{STDERR_FILENO, STDIN_FILENO, STDOUT_FILENO};
 use line::Line;
+use std::env::{Env, FillError};
+use std::io;
+use std::io::Write;
 
-fn print(line: Line)
+fn print(rt: &impl Print, line: Line) -> io::Result<()>
     requires { line.used ≤ 128 }
 {
     let bytes = line.bytes;
-    io::write_all(STDOUT_FILENO, &bytes[..line.used]);
+    io::writer(rt).write_all(&bytes[..line.used])
+}
+
+// Whether there is an argument of this number. Argument 0 is the program's name.
+fn has_argument(rt: &impl Env, number: usize) -> bool {
+    let mut first = [0u8; 1];
+    match rt.arg(number, &mut first) {
+        Err(FillError::NotPresent) => false,
+        _ => true,
+    }
 }
 
 // Judges a plan by the argument. One that does not fit the buffer is longer than any text: the whole buffer stands for it.
-fn judge_by_argument(plan: &[u8]) {
-    let mut text = io::buffer();
-    let n = os::arg(1, &mut text);
-    if os::errno() == 0 {
-        print(report::line_for_text(plan, &text[..n]));
-    } else {
-        print(report::line_for_text(plan, &text));
+fn judge_by_argument(rt: &(impl Print + Env), plan: &[u8]) -> io::Result<()> {
+    let mut text = [0u8; 4096];
+    match rt.arg(1, &mut text) {
+        Ok(n) => print(rt, report::line_for_text(plan, &text[..n])),
+        Err(_) => print(rt, report::line_for_text(plan, &text)),
     }
 }
 
-fn main() {
-    let arguments = os::arg_count();
-    if arguments > 2 {
-        io::write_all(STDERR_FILENO, b"judge: more than one text\n");
-        return;
+fn main(rt: HostRuntime) -> io::Result<()> {
+    if has_argument(&rt, 2) {
+        return eprintln!(rt; "judge: more than one text");
     }
-    let mut input = io::buffer();
-    let n = io::read_full(STDIN_FILENO, &mut input);
-    if arguments == 2 {
-        judge_by_argument(&input[..n]);
+    let mut input = [0u8; 4096];
+    let n = input::read_full(&mut rt.stdin(), &mut input)?;
+    if has_argument(&rt, 1) {
+        judge_by_argument(&rt, &input[..n])
     } else {
-        print(report::line_for(&input[..n]));
+        print(&rt, report::line_for(&input[..n]))
     }
 }

@@ -1,4 +1,6 @@
 // The parts of a typed pattern without round brackets: single bytes, letters and sets.
+#![tactic(auto)]
+
 ghost use Rattle.std.specs.Prelude.{◌≡◌, List, ℕ, ◌≤◌, length, drop};
 ghost use Rattle.grammar.specs.Grammar.{Tree};
 ghost use Rattle.grammar.specs.Ways.{starts_with, is_letter, starts_with_letter, past_letters, listing, in_set, leaf};

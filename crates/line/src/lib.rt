@@ -1,4 +1,6 @@
 // The line that tells an answer.
+#![tactic(auto)]
+
 ghost use Rattle.std.specs.Prelude.{◌≡◌, List, [], ◌++◌, ℕ, ◌+◌, ◌≤◌, ◌<◌, length};
 ghost use Rattle.line.specs.Line.{decimal, hexadecimal, fields, line_of};
 ghost use Rattle.line.specs.Array.{line_array};

@@ -1,4 +1,6 @@
 // A plan with its pattern: the refusals 1 to 16 and 21, and the pattern's part of the plan.
+#![tactic(auto)]
+
 ghost use Rattle.std.specs.Prelude.{◌≡◌, not, length};
 ghost use Rattle.expressions.specs.Items.{pattern_of};
 ghost use Rattle.items.specs.Tables.{items_on};

@@ -1,4 +1,6 @@
 // Refusals 1 to 9 and 21 of a plan, and those of them that need no node's job: the frame of the bytes, and the sizes of the jobs.
+#![tactic(auto)]
+
 ghost use Rattle.std.specs.Prelude.{◌≡◌, ◌<◌, ◌≤◌};
 ghost use Rattle.sections.specs.Tables.{jobs_in};
 ghost use Rattle.plan.specs.Checks.{first};

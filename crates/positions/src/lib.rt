@@ -1,4 +1,6 @@
 // The positions of a pattern, built item by item: what may follow each, and which hold each event.
+#![tactic(auto)]
+
 ghost use Rattle.std.specs.Prelude.{◌≡◌, cond, ℕ, length};
 ghost use Rattle.rows.specs.Rows.{row, place};
 ghost use Rattle.expressions.specs.Items.{empty, events, sequence, choice, repeat, pattern_of};

@@ -1,4 +1,6 @@
 // What is read back of the bytes of a plan, into lent arrays: its tables, and the automaton of its pattern.
+#![tactic(auto)]
+
 ghost use Rattle.std.specs.Prelude.{◌≡◌, ◌≤◌};
 ghost use Rattle.rows.specs.Rows.{row, place};
 ghost use Rattle.expressions.specs.Items.{pattern_of};

@@ -1,4 +1,6 @@
 // The reader of a plan: the refusals before the pattern, or the plan's tables.
+#![tactic(auto)]
+
 ghost use Rattle.std.specs.Prelude.{◌≡◌, ◌++◌, ◌+◌, ◌≤◌, length, take, replicate};
 ghost use Rattle.std.proofs.Math.Option.{none};
 ghost use Rattle.rows.specs.Rows.{padded};

@@ -1,4 +1,6 @@
 // The readers of typed patterns: choices, sequences and units, which call each other.
+#![tactic(auto)]
+
 ghost use Rattle.std.specs.Prelude.{◌≡◌, false, ◌≤◌, length, drop};
 ghost use Rattle.grammar.specs.Grammar.{opening};
 ghost use Rattle.grammar.specs.Ways.{starts_with, chain, choices, sequences, one_unit};

@@ -1,4 +1,6 @@
 // From the bytes of a plan, and of a text, to the line that tells the answer.
+#![tactic(auto)]
+
 ghost use Rattle.promises.specs.Order.{own};
 ghost use Rattle.promises.specs.Judged.{Judged, JudgedText};
 ghost use Rattle.report.specs.Reports.{Reports};

@@ -1,4 +1,6 @@
 // The format of a plan before its pattern: its head, where its sections stand, and the tables that keep them.
+#![tactic(auto)]
+
 ghost use Rattle.std.specs.Prelude.{◌≡◌, ◌<◌, ◌≤◌, length};
 ghost use Rattle.sections.specs.Plan.{nothing, stands};
 ghost use Rattle.sections.specs.Layout.{head_of, end_at};

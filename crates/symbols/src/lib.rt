@@ -1,4 +1,6 @@
 // The items that begin at places of a typed pattern, and its letters.
+#![tactic(auto)]
+
 ghost use Rattle.std.specs.Prelude.{◌≡◌, true, not, [], ◌∷◌, ℕ, ◌-◌, ◌≤◌, ◌^◌, min, drop};
 ghost use Rattle.std.specs.Int.Bits.{bit_and};
 ghost use Rattle.masks.specs.Mask.{has};

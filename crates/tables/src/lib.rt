@@ -1,4 +1,6 @@
 // The sections of a plan before its pattern, read into tables.
+#![tactic(auto)]
+
 ghost use Rattle.std.specs.Prelude.{◌≡◌, ℕ, ◌+◌, ◌*◌, ◌≤◌, length};
 ghost use Rattle.fields.specs.Bits.{field_at};
 ghost use Rattle.rows.specs.Rows.{row};

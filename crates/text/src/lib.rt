@@ -1,4 +1,6 @@
 // The reader of typed patterns: the refusals 18 to 20, or the items.
+#![tactic(auto)]
+
 ghost use Rattle.text.specs.Typed.{Typed};
 
 use items::{ItemsRead, none_read};

@@ -1,4 +1,6 @@
 // The judge, the pattern part and what is read back of a plan, for programs in C and Rust.
+#![tactic(auto)]
+
 ghost use Rattle.std.specs.Prelude.{◌≡◌, ◌≤◌};
 ghost use Rattle.plan.specs.Checks.{first};
 ghost use Rattle.pattern.specs.Refusals.{readable, acceptable};

@@ -1,4 +1,6 @@
 // The table of moves of a numbered automaton: 64 rows by 32 events.
+#![tactic(auto)]
+
 ghost use Rattle.std.specs.Prelude.{◌≡◌, List, ℕ, ◌<◌, ◌≤◌, replicate};
 ghost use Rattle.rows.specs.Rows.{row as row_of};
 ghost use Rattle.expressions.specs.Expression.{Expression};

@@ -1,4 +1,6 @@
 // The judge of a plan whose pattern was typed.
+#![tactic(auto)]
+
 ghost use Rattle.promises.specs.Judged.{JudgedText};
 
 use plan::Outcome;
