@@ -68,6 +68,6 @@ one j s = packed (head 1 2 1 0 0 0 1 ++ j ++ s)
 -- ---- tables
 
 -- functions that agree over a list agree on each of its members
-pub agree : {A B : Type 0} (f g : A → B) {l : List A} → map f l ≡ map g l → {a : A} → Memᴰ a l → f a ≡ g a
+pub agree : {A B : Type 0} (f g : A → B) {a : A} {l : List A} → map f l ≡ map g l → Memᴰ a l → f a ≡ g a
 agree f g e (Memᴰ.head p) = ap f p ∙ head-eq_of_cons-eq e ∙ sym (ap g p)
 agree f g e (Memᴰ.tail m) = agree f g (tail-eq_of_cons-eq e) m

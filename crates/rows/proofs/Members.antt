@@ -17,7 +17,7 @@ module _ {A : Type 0} (d : A) where
   at_in (x ∷ l) zero h = Memᴰ.head refl
   at_in (x ∷ l) (suc i) h = Memᴰ.tail (at_in l i (le_of_suc-le-suc h))
 
-  pub in_at : {l : List A} {x : A} → Memᴰ x l → (i : ℕ) × (i < length l) × (get_or l i d ≡ x)
+  pub in_at : {x : A} {l : List A} → Memᴰ x l → (i : ℕ) × (i < length l) × (get_or l i d ≡ x)
   in_at (Memᴰ.head q) = (0, omega arith, sym q)
   in_at (Memᴰ.tail i) = let r = in_at i in (suc r.0, omega arith, r.2)
 

@@ -67,7 +67,7 @@ shape_of-row-then-hand_over c = search rules
 
 returns-then-hand_over : tie.Need-returns-then-hand_over
 returns-then-hand_over c =
-    let s = start c in
+    let s = start c.before.before.before in
     (found c.before.before.before.before.before ∙ ap (λ (b : Bool). unless_short b (said s)) (sym c.if-hand_over.true ∙ c.hand_over.ensures.0), row_is c.before.before.before)
 
 shape_of-row-else-hand_over : tie.Need-shape_of-row-else-hand_over
@@ -75,7 +75,7 @@ shape_of-row-else-hand_over c = search rules
 
 returns-else-hand_over : tie.Need-returns-else-hand_over
 returns-else-hand_over c =
-    let s = start c in
+    let s = start c.before.before.before in
     (ap (λ (b : Bool). unless_short b (said s)) (sym c.if-hand_over.false ∙ c.hand_over.ensures.0), row_is c.before.before.before)
 
 pub answer_on_spec : {M : Type 1} → statement M

@@ -17,7 +17,7 @@ returns : tie.Need-returns
 returns c =
     let len = length c.args.rest.now in
     let bytes = (c.args.n + 7) / 8 in
-    let go : (t : Bool) → ltb len bytes ≡ t → t ≡ ltb (8 * len) c.args.n = λ t. elim t [ true ↦ λ h. let k = ltb-true len bytes h in sym (lt-ltb (8 * len) c.args.n (omega arith)) | false ↦ λ h. let k = ltb-false len bytes h in sym (le-ltb (8 * len) c.args.n (omega arith)) ] in
+    let go : (t : Bool) → ltb len bytes ≡ t → t ≡ ltb (8 * len) c.args.n = λ t. elim t as (λ t. ltb len bytes ≡ t → t ≡ ltb (8 * len) c.args.n) [ true ↦ λ h. let k = ltb-true len bytes h in sym (lt-ltb (8 * len) c.args.n (omega arith)) | false ↦ λ h. let k = ltb-false len bytes h in sym (le-ltb (8 * len) c.args.n (omega arith)) ] in
     go (ltb len bytes) refl
 
 pub is_cut_spec : {M : Type 1} → statement M

@@ -20,7 +20,7 @@ use Rattle.items.proofs.read_items.Tie as tie
 
 -- the arguments, and what was read, where the items had no refusal
 abbrev start : tie.In-Accepted → tie.Start
-start c = c.before.before.before.before
+start c = c.before.before.before
 
 abbrev bytes : tie.In-Accepted → List ℕ
 bytes c = (start c).args.rest.now
@@ -112,7 +112,7 @@ returns-in-Refused c =
 
 returns-else-field-ne0 : tie.Need-returns-else-field-ne0
 returns-else-field-ne0 c =
-    let read : ◌≡◌ {A = ItemsRead} (record { outcome = Accepted; items = c.scan_items-s.result.items }) (answered none (spot c.before.before.before.before.before.before).items-1) = λ i. record { outcome = Accepted; items = (kept c.before.before.before.before.before.before i).items-1 } in
+    let read : ◌≡◌ {A = ItemsRead} (record { outcome = Accepted; items = c.scan_items-s.result.items }) (answered none (spot c.before.before.before.before.before.before).items) = λ i. record { outcome = Accepted; items = (kept c.before.before.before.before.before.before i).items } in
     read ∙ sym (answer_items (bytes c.before.before.before.before.before.before) (alphabet c.before.before.before.before.before.before) (count c.before.before.before.before.before.before) (spot c.before.before.before.before.before.before) (scanned c.before.before.before.before.before.before).1 (one c.before.before.before.before) (trails c.before.before.before.before.before.before (trails_none (bytes c.before.before.before.before.before.before) (behind c.before.before.before.before.before.before) c.if-rest-bytes.false _ c.field.ensures c.if-field-ne0.false)))
 
 pub read_items_spec : {M : Type 1} → statement M

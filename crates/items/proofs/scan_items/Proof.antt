@@ -44,7 +44,7 @@ bounds c = let loop = c.loop-i in near (bytes c) (alphabet c) loop.i loop.at loo
 enough : (c : tie.In_default invariant-loop-i decreases-loop-i) → arity (item_of c.item_at-f.result.kind 0) ≤ c.loop-i.depth
 enough c =
     let loop = c.loop-i in
-    turn_enough (bytes c.before.before.before) (alphabet c.before.before.before) loop.i loop.at loop.depth loop.items.kind loop.items.set loop.invariant.1 c.item_at-f.result c.item_at-f.ensures c.in_default.is
+    turn_enough (bytes c.before.before) (alphabet c.before.before) loop.i loop.at loop.depth loop.items.kind loop.items.set loop.invariant.1 c.item_at-f.result c.item_at-f.ensures c.in_default.is
 
 item_at-f-requires : tie.Need-item_at-f-requires invariant-loop-i decreases-loop-i
 item_at-f-requires c κs = omega (arith, bounds c)
@@ -59,9 +59,9 @@ returns-in-Refused : tie.Need-returns-in-Refused invariant-loop-i decreases-loop
 returns-in-Refused c =
     let args = c.args in
     let loop = c.loop-i in
-    let refused = turn_refused (bytes c.before.before.before.before.before) (alphabet c.before.before.before.before.before) loop.i loop.at loop.depth loop.items.kind loop.items.set loop.invariant.1 c.item_at-f.result c.item_at-f.ensures _ c.in-Refused.is in
+    let refused = turn_refused (bytes c.before.before.before) (alphabet c.before.before.before) loop.i loop.at loop.depth loop.items.kind loop.items.set loop.invariant.1 c.item_at-f.result c.item_at-f.ensures _ c.in-Refused.is in
     let rest : loop.i + 1 + (args.count - (loop.i + 1)) ≡ args.count = omega arith in
-    c.stopped.ensures ∙ ap scan_of (sym (faulty_later (bytes c.before.before.before.before.before) (alphabet c.before.before.before.before.before) (loop.i + 1) (args.count - (loop.i + 1)) _ refused) ∙ ap (read (bytes c.before.before.before.before.before) (alphabet c.before.before.before.before.before)) rest)
+    c.stopped.ensures ∙ ap scan_of (sym (faulty_later (bytes c.before.before.before) (alphabet c.before.before.before) (loop.i + 1) (args.count - (loop.i + 1)) _ refused) ∙ ap (read (bytes c.before.before.before) (alphabet c.before.before.before)) rest)
 
 enum_told-1 : tie.Need-enum_told-1 invariant-loop-i decreases-loop-i
 enum_told-1 c = search rules
@@ -83,10 +83,10 @@ width_of-at-requires c κs = search rules
 
 overflow_add-at : tie.Need-overflow_add-at invariant-loop-i decreases-loop-i
 overflow_add-at c =
-    omega (arith, bounds c.before.before.before.before.before, c.width_of-at.ensures, width_item c.item_at-f.result.kind)
+    omega (arith, bounds c.before.before.before.before, c.width_of-at.ensures, width_item c.item_at-f.result.kind)
 
 overflow_add-depth : tie.Need-overflow_add-depth invariant-loop-i decreases-loop-i
-overflow_add-depth c = omega (arith, bounds c.before.before.before.before.before)
+overflow_add-depth c = omega (arith, bounds c.before.before.before.before)
 
 arity_of-requires : tie.Need-arity_of-requires invariant-loop-i decreases-loop-i
 arity_of-requires c κs = search rules
@@ -105,7 +105,7 @@ loop-i-preserved c =
     let loop = c.loop-i in
     let item = c.item_at-f.result in
     let more : scan_at (loop.at + c.width_of-at.result) (loop.depth + 1 - c.arity_of.result) (loop.i + 1) (set loop.items.kind loop.i item.kind) (set loop.items.set loop.i item.set) ≡ added (scan_at loop.at loop.depth loop.i loop.items.kind loop.items.set) item = λ j. scan_at (loop.at + c.width_of-at.ensures j) (loop.depth + 1 - c.arity_of.ensures.0 j) (loop.i + 1) (set loop.items.kind loop.i item.kind) (set loop.items.set loop.i item.set) in
-    (omega arith, more ∙ turn_accepted (bytes c.before.before.before.before.before.before) (alphabet c.before.before.before.before.before.before) loop.i loop.at loop.depth loop.items.kind loop.items.set loop.invariant.1 item c.item_at-f.ensures c.in_default.is (omega arith))
+    (omega arith, more ∙ turn_accepted (bytes c.before.before.before.before.before) (alphabet c.before.before.before.before.before) loop.i loop.at loop.depth loop.items.kind loop.items.set loop.invariant.1 item c.item_at-f.ensures c.in_default.is (omega arith))
 
 returns : tie.Need-returns invariant-loop-i decreases-loop-i
 returns c =

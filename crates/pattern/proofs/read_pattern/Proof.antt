@@ -59,10 +59,10 @@ slice_bounds-read_items-end : tie.Need-slice_bounds-read_items-end
 slice_bounds-read_items-end c = search rules
 
 read_items-read-requires : tie.Need-read_items-read-requires
-read_items-read-requires c κs = rw (ap (λ (r : Reading). r.plan.items) (plan_read c.before.before)) (legal (bytes c.before.before) (passed c.before.before)).items-1
+read_items-read-requires c κs = rw (ap (λ (r : Reading). r.plan.items) (plan_read c.before.before)) (legal (bytes c.before.before) (passed c.before.before)).items
 
 -- the reader of items receives the plan from the pattern's byte on
-items_found : (c : tie.After-read_items-read) → c.read_items-read.result ≡ items_read_of (rest (bytes c.before.before.before)) (plan_of (bytes c.before.before.before)).alphabet (plan_of (bytes c.before.before.before)).items-1
+items_found : (c : tie.After-read_items-read) → c.read_items-read.result ≡ items_read_of (rest (bytes c.before.before.before)) (plan_of (bytes c.before.before.before)).alphabet (plan_of (bytes c.before.before.before)).items
 items_found c =
     let b = bytes c.before.before.before in
     let r = c.read_plan-reading.result in
@@ -87,15 +87,15 @@ returns-in-Refused c =
 
 returns-in-Refused-items_found : tie.Need-returns-in-Refused-items_found
 returns-in-Refused-items_found c =
-    let refused = items_refused (rest (bytes c.before.before.before.before.before.before.before)) _ _ c.in-Refused-items_found.n (ap (λ (x : ItemsRead). x.outcome) (sym (items_found c.before.before.before.before)) ∙ c.in-Refused-items_found.is) in
-    (c.turned_down-in-Refused-items_found.ensures ∙ sym (answer_items (bytes c.before.before.before.before.before.before.before) (passed c.before.before.before.before.before.before.before) c.in-Refused-items_found.n refused), c.read_plan-reading.ensures.1)
+    let refused = items_refused (rest (bytes c.before.before.before.before.before)) _ _ c.in-Refused-items_found.n (ap (λ (x : ItemsRead). x.outcome) (sym (items_found c.before.before)) ∙ c.in-Refused-items_found.is) in
+    (c.turned_down-in-Refused-items_found.ensures ∙ sym (answer_items (bytes c.before.before.before.before.before) (passed c.before.before.before.before.before) c.in-Refused-items_found.n refused), c.read_plan-reading.ensures.1)
 
 returns-in-Accepted-items_found : tie.Need-returns-in-Accepted-items_found
 returns-in-Accepted-items_found c =
-    let fine = items_accepted (rest (bytes c.before.before.before.before.before.before)) (plan_of (bytes c.before.before.before.before.before.before)).alphabet (plan_of (bytes c.before.before.before.before.before.before)).items-1 (ap (λ (x : ItemsRead). x.outcome) (sym (items_found c.before.before.before)) ∙ c.in-Accepted-items_found.is) in
-    let read = items_found c.before.before.before ∙ items_read (rest (bytes c.before.before.before.before.before.before)) (plan_of (bytes c.before.before.before.before.before.before)).alphabet (plan_of (bytes c.before.before.before.before.before.before)).items-1 fine in
-    let whole : ◌≡◌ {A = PatternRead} (record { reading = c.read_plan-reading.result; items = c.read_items-read.result.items }) (accepted (bytes c.before.before.before.before.before.before)) = λ i. record { reading = plan_read c.before.before.before.before.before.before i; items = (read i).items-1 } in
-    (whole ∙ sym (answer_none (bytes c.before.before.before.before.before.before) (passed c.before.before.before.before.before.before) fine), c.read_plan-reading.ensures.1)
+    let fine = items_accepted (rest (bytes c.before.before.before.before.before)) (plan_of (bytes c.before.before.before.before.before)).alphabet (plan_of (bytes c.before.before.before.before.before)).items (ap (λ (x : ItemsRead). x.outcome) (sym (items_found c.before.before)) ∙ c.in-Accepted-items_found.is) in
+    let read = items_found c.before.before ∙ items_read (rest (bytes c.before.before.before.before.before)) (plan_of (bytes c.before.before.before.before.before)).alphabet (plan_of (bytes c.before.before.before.before.before)).items fine in
+    let whole : ◌≡◌ {A = PatternRead} (record { reading = c.read_plan-reading.result; items = c.read_items-read.result.items }) (accepted (bytes c.before.before.before.before.before)) = λ i. record { reading = plan_read c.before.before.before.before.before i; items = (read i).items } in
+    (whole ∙ sym (answer_none (bytes c.before.before.before.before.before) (passed c.before.before.before.before.before) fine), c.read_plan-reading.ensures.1)
 
 pub read_pattern_spec : {M : Type 1} → statement M
 read_pattern_spec =

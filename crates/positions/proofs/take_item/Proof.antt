@@ -34,7 +34,7 @@ returns-in-3 c = rw c.in-3.is c.take_choice.ensures
 returns-in_default : tie.Need-returns-in_default
 returns-in_default c =
     let args = c.args in
-    let rest = c.in-0.rest in
+    let rest = c.in_default.in_default-own.rest in
     rw (item_repeat args.kind args.set rest.0.0.0.1 rest.0.0.1 rest.0.1 rest.1) c.take_repeat.ensures
 
 pub take_item_spec : {M : Type 1} → statement M

@@ -90,7 +90,7 @@ returns-then-s c =
     let accepts = c.accepting_of-accepting.ensures r es (ends_are c.before.before.before.before.before.before.before.before.before.before) grows in
     let places : place s.sets ≡ place es = ap (λ (x : States). place x.sets) f.2 ∙ padded_places 96 es in
     let states = c.first_states.ensures ∙ ap (row 64) places in
-    let moves : c.Moves-of.result ≡ table_of r alphabet es = c.Moves-of.ensures r es _ (of c.before.before.before.before.before.before.before.before.before.before) grows in (
+    let moves : c.moves_of.result ≡ table_of r alphabet es = c.moves_of.ensures r es _ (of c.before.before.before.before.before.before.before.before.before.before) grows in (
       sym (ap limit_of f.1),
       (λ i. property (kept_count es s f.2 i ∷ accepts i ∷ []) (states i) (moves i))
           ∙ sym (ap (λ (o : Option (List ℕ)). property_with r alphabet o (before (start c.before.before.before.before.before.before.before.before.before.before))) f.1),

@@ -44,12 +44,12 @@ returns-in-Accepted c =
     let b = c.args.plan.now in
     let passed = read_accepted b (ap (λ (r : PatternRead). r.reading.outcome) (sym c.read_pattern-read.ensures.0) ∙ c.in-Accepted.is) in
     let read : c.read_pattern-read.result ≡ accepted b = c.read_pattern-read.ensures.0 ∙ answer b none passed in
-    let arcs : c.read_pattern-read.new.1.0 ≡ row 512 (word_at (plan_of b)) =
-    arcs_are (plan_of b) (legal b (before_items b passed)) c.read_pattern-read.new.1.0 (words_read b _ _ (before_items b passed) c.read_pattern-read.ensures.1) in
-    let counts = c.Counts-of.ensures ∙ ap (λ (r : PatternRead). counts_in r.reading.plan) read in (
+    let arcs : c.read_pattern-read.new.words ≡ row 512 (word_at (plan_of b)) =
+    arcs_are (plan_of b) (legal b (before_items b passed)) c.read_pattern-read.new.words (words_read b _ _ (before_items b passed) c.read_pattern-read.ensures.1) in
+    let counts = c.counts_of.ensures ∙ ap (λ (r : PatternRead). counts_in r.reading.plan) read in (
       sym (ap number_of passed),
       (λ i.
-          let d = (read i).reading-1.plan in
+          let d = (read i).reading.plan in
           tables (counts i) d.jobs.size d.jobs.entry d.jobs.exit d.jobs.standing d.channels.event (arcs i) (read i).items.kind (read i).items.set)
           ∙ sym (tables_told b none passed _),
     )

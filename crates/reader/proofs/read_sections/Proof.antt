@@ -38,14 +38,14 @@ sized f = (owned f).before.before.before
 abbrev decoded : tie.After-bounded-found → tie.After-decode-d
 decoded f = (sized f).before.before
 
-read : (r : tie.After-decode-d) → Read (bytes r) r.read_head-h.result r.decode-d.result (begun r).args.words.now r.decode-d.new.1.1.0
+read : (r : tie.After-decode-d) → Read (bytes r) r.read_head-h.result r.decode-d.result (begun r).args.words.now r.decode-d.new.words
 read r = record { passed = (begun r).requires.0; head = r.read_head-h.ensures; tables = r.decode-d.ensures.0; arcs = r.decode-d.ensures.1 }
 
 -- refusals 6, 21, and 7 to 9 go by their tests
 bound : (f : tie.After-bounded-found) → outcome_of (first shape (plan_of (bytes (decoded f)))) ≡ f.bounded-found.result
 bound f =
     let r = read (decoded f) in
-    ends_next r (sized f).sizes_wrong.ensures (owned f).before.if1.false _ (f.bounded-found.ensures (plan_of (bytes (decoded f))) (lent_of r (owned f).owners_of-owner.ensures))
+    ends_next r (sized f).sizes_wrong.ensures (owned f).if-sizes_wrong.false _ (f.bounded-found.ensures (plan_of (bytes (decoded f))) (lent_of r (owned f).owners_of-owner.ensures))
 
 whole : (b : List ℕ) (plan : Decoded) (owner : List ℕ) (pattern : ℕ) → plan ≡ decoded_of (plan_of b) → owner ≡ padded 256 (owners (plan_of b).jobs)
     → pattern ≡ pattern_at (head_of b) → ◌≡◌ {A = Reading} (record { outcome = Accepted; plan = plan; owner = owner; pattern = pattern }) (accepted b)
@@ -89,23 +89,23 @@ enum_told-1 c = search rules
 
 end_of-requires : tie.Need-end_of-requires
 end_of-requires c κs =
-    let n = counts (read (decoded c.before.before)) in
+    let n = counts (read (decoded c.before)) in
     (n.jobs, n.steps, n.channels, n.calls, n.accepts)
 
 overflow_add-result : tie.Need-overflow_add-result
-overflow_add-result c = omega (arith, c.end_of.ensures, counts (read (decoded c.before.before.before)))
+overflow_add-result c = omega (arith, c.end_of.ensures, counts (read (decoded c.before.before)))
 
 returns-in-Refused : tie.Need-returns-in-Refused
 returns-in-Refused c =
-    let b = bytes (decoded c.before.before.before.before) in
-    (c.turned_down-in-Refused.ensures ∙ sym (ap (λ (o : Option ℕ). answered o b) (outcome_refused (first shape (plan_of b)) c.in-Refused.n (bound c.before.before.before.before ∙ c.in-Refused.is))), worded (read (decoded c.before.before.before.before)))
+    let b = bytes (decoded c.before.before) in
+    (c.turned_down-in-Refused.ensures ∙ sym (ap (λ (o : Option ℕ). answered o b) (outcome_refused (first shape (plan_of b)) c.in-Refused.n (bound c.before.before ∙ c.in-Refused.is))), worded (read (decoded c.before.before)))
 
 returns-in-Accepted : tie.Need-returns-in-Accepted
 returns-in-Accepted c =
-    let b = bytes (decoded c.before.before.before) in
-    let r = read (decoded c.before.before.before) in
-    let none-applies = outcome_accepted (first shape (plan_of b)) (bound c.before.before.before ∙ c.in-Accepted.is) in
-    (whole b _ _ _ (kept r) (owners_kept r (owned c.before.before.before).owners_of-owner.ensures) (starts r _ c.end_of.ensures) ∙ sym (ap (λ (o : Option ℕ). answered o b) none-applies), worded r)
+    let b = bytes (decoded c.before.before) in
+    let r = read (decoded c.before.before) in
+    let none-applies = outcome_accepted (first shape (plan_of b)) (bound c.before.before ∙ c.in-Accepted.is) in
+    (whole b _ _ _ (kept r) (owners_kept r (owned c.before.before).owners_of-owner.ensures) (starts r _ c.end_of.ensures) ∙ sym (ap (λ (o : Option ℕ). answered o b) none-applies), worded r)
 
 pub read_sections_spec : {M : Type 1} → statement M
 read_sections_spec =
