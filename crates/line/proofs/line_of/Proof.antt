@@ -20,15 +20,15 @@ arm : {line made : Line} {a b : Answer} → line ≡ made → made ≡ line_arra
 arm e t l q = (e ∙ t ∙ ap (λ a. line_array (answer_text a)) (sym q), rw e l)
 
 -- the line before its end
-so_far : (c : tie.Joined-a) → (c.in-Refused.line ≡ line_array (answer_text c.args.a)) × (c.in-Refused.line.used < 128)
+so_far : (c : tie.Joined-a) → (c.match-a.line ≡ line_array (answer_text c.args.a)) × (c.match-a.line.used < 128)
 so_far c =
     ⊎_elim
     (λ w.
-    let h = count_behind [] (text "refused ") w.1.given.0.0 0 (w.3.ensures, omega arith) (omega arith) w.5.ensures in
-    arm w.6 h.0 (omega (arith, h.1, ap (λ (r : Line). r.used) h.0)) w.1.given.1)
-    (⊎_elim (λ w. arm w.5 w.4.ensures.0 w.4.ensures.1 w.1.given.1)
-    (λ w. arm w.5 w.4.ensures.0 w.4.ensures.1 w.1.given.1))
-    c.in-Refused.branch-raw
+    let h = count_behind [] (text "refused ") w.in-Refused.n 0 (w.blank.ensures, omega arith) (omega arith) w.with_count-line.ensures in
+    arm w.line-is h.0 (omega (arith, h.1, ap (λ (r : Line). r.used) h.0)) w.in-Refused.is)
+    (⊎_elim (λ w. arm w.line-is w.with_fields-line.ensures.0 w.with_fields-line.ensures.1 w.in-Verified.is)
+    (λ w. arm w.line-is w.with_fields-line-in-Inconclusive.ensures.0 w.with_fields-line-in-Inconclusive.ensures.1 w.in-Inconclusive.is))
+    c.match-a.branch-raw
 
 enum_known-a : tie.Need-enum_known-a
 enum_known-a c = search rules

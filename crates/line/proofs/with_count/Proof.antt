@@ -12,10 +12,10 @@ use Rattle.line.proofs.with_count.Statement.{statement}
 use Rattle.line.proofs.with_count.Tie as tie
 
 -- the digits that are written
-written : (c : tie.After-decimal-k) → take c.decimal-k.result c.decimal-k.new.1.0 ≡ decimal c.args.n
+written : (c : tie.After-decimal-k) → take c.decimal-k.result c.decimal-k.new.out ≡ decimal c.args.n
 written c =
     let e = c.decimal-k.ensures in
-    e.1.1 ∙ decimal_digits c.decimal-k.result c.args.n (omega arith) e.1.0
+    e.1.1.0 ∙ decimal_digits c.decimal-k.result c.args.n (omega arith) e.1.0
 
 decimal-k-requires : tie.Need-decimal-k-requires
 decimal-k-requires c κs = search rules

@@ -12,10 +12,10 @@ use Rattle.line.proofs.with_set.Statement.{statement}
 use Rattle.line.proofs.with_set.Tie as tie
 
 -- the digits that are written
-written : (c : tie.After-hex-k) → take c.hex-k.result c.hex-k.new.1.1.0 ≡ hexadecimal c.args.m
+written : (c : tie.After-hex-k) → take c.hex-k.result c.hex-k.new.out ≡ hexadecimal c.args.m
 written c =
     let e = c.hex-k.ensures in
-    e.1.1 ∙ hexadecimal_digits c.hex-k.result c.args.m (omega arith) e.1.0
+    e.1.1.0 ∙ hexadecimal_digits c.hex-k.result c.args.m (omega arith) e.1.0
 
 hex-k-requires : tie.Need-hex-k-requires
 hex-k-requires c κs = search rules

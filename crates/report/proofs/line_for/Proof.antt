@@ -17,8 +17,8 @@ returns c = record {
   answer = c.judge-answer.result;
   row = _;
   judged = c.judge-answer.ensures;
-  printed = c.Line-of.ensures.0;
-  fits = c.Line-of.ensures.1;
+  printed = c.line_of.ensures.0;
+  fits = c.line_of.ensures.1;
 }
 
 pub line_for_spec : {M : Type 1} → statement M
