@@ -1,7 +1,6 @@
 -- The readers of choices, sequences and units, which call each other: fewer bytes remain at each call, or the same and a smaller part.
-use Prim.Native.Nat.{◌+◌, ◌-◌, ◌*◌}
 use mathlib.Core.List.{List}
-use Prim.Native.Nat.{ℕ}
+use Prim.Native.Nat.{ℕ, ◌+◌, ◌-◌, ◌*◌}
 use lib.ListN.{length}
 use Rattle.grammar.specs.Ways.{choices, sequences, operand}
 use Rattle.readers.specs.Readers.{Onward}
