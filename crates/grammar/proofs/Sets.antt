@@ -18,7 +18,7 @@ listed_in [] e i = absurd (not_in_none e i)
 listed_in (x ∷ es) e i =
     ⊎_elim (λ h. Memᴰ.head (in_single x e h)) (λ h. Memᴰ.tail (listed_in es e h)) (in_or (2 ^ x) (listed es) e i)
 
-in_list : {es : List ℕ} {e : ℕ} → Memᴰ e es → In e (listed es)
+in_list : {e : ℕ} {es : List ℕ} → Memᴰ e es → In e (listed es)
 unfolding listed
 in_list {e} (Memᴰ.head {x} {xs} q) = in_or_left (2 ^ x) (listed xs) e (rw q (digit_self x))
 in_list {e} (Memᴰ.tail {x} {xs} m) = in_or_right (2 ^ x) (listed xs) e (in_list m)

@@ -14,7 +14,7 @@ use Rattle.readers.proofs.plain.Tie as tie
 
 -- the leaf that was found
 abbrev start : tie.In-Next → tie.Start
-start c = c.before.before.before.before.before
+start c = c.before.before.before
 
 ended : (c : tie.In-Next) → let a = (start c).args in Ends (leaf (drop a.at a.text.now)) a.text.now a.at (Next c.in-Next.end)
 ended c =

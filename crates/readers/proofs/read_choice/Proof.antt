@@ -10,7 +10,7 @@ choice-requires c κs = search rules
 returns : tie.Need-returns
 returns c =
     let args = c.args in
-    from_start args.text.now args.order.now c.choice.new.1.1.0 c.choice.result c.choice.ensures
+    from_start args.text.now args.order.now c.choice.new.order c.choice.result c.choice.ensures
 
 pub read_choice_spec : {M : Type 1} → statement M
 read_choice_spec = tie.close (tie.spec choice-requires returns)

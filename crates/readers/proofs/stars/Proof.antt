@@ -77,7 +77,7 @@ loop-order-smaller c = omega (arith, within c.before)
 
 loop-order-preserved : tie.Need-loop-order-preserved invariant-loop-order decreases-loop-order
 loop-order-preserved c =
-    let args = (start c).args in
+    let args = c.args in
     let loop = c.loop-order in
     let n = args.already + loop.k in
     let e : here c.before + 1 ≡ args.from + (loop.k + 1) = omega arith in

@@ -17,13 +17,13 @@ use Rattle.text.proofs.read_text.Tie as tie
 
 -- what the readers came to
 abbrev start : tie.In-Next → tie.Start
-start c = c.before.before.before.before.before.before.before
+start c = c.before.before.before.before.before
 
 abbrev text : tie.In-Next → List ℕ
 text c = (start c).args.text.now
 
 abbrev order : tie.In-Next → List ℕ
-order c = c.read_choice-read.new.1.0
+order c = c.read_choice-read.new.order
 
 abbrev end : tie.In-Next → ℕ
 end c = c.in-Next.end
@@ -67,7 +67,7 @@ none_read-requires-in_default c κs = search rules
 returns-in_default : tie.Need-returns-in_default
 returns-in_default c =
     let a = c.args in
-    broken_text a.text.now a.alphabet (subst (λ (r : Reached). Read a.text.now c.read_choice-read.new.1.0 r) c.in_default.is c.read_choice-read.ensures) c.none_read-in_default.ensures
+    broken_text a.text.now a.alphabet (subst (λ (r : Reached). Read a.text.now c.read_choice-read.new.order r) c.in_default.is c.read_choice-read.ensures) c.none_read-in_default.ensures
 
 none_read-requires-then-end-text : tie.Need-none_read-requires-then-end-text
 none_read-requires-then-end-text c κs = search rules

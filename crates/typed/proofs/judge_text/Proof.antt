@@ -30,18 +30,18 @@ found c = c.read_pattern-read.result
 passed : (c : tie.In-Accepted) → first readable (bytes c) ≡ none
 passed c = passed_reader (bytes c) (found c) c.read_pattern-read.ensures.0 c.in-Accepted.is
 
-kept : (c : tie.In-Accepted) → Reads (plan_of (bytes c)) (found c).reading-1.plan c.read_pattern-read.new.1.0 (found c).reading-1.owner
+kept : (c : tie.In-Accepted) → Reads (plan_of (bytes c)) (found c).reading.plan c.read_pattern-read.new.words (found c).reading.owner
 kept c =
     let read = c.read_pattern-read in
     plan_read (bytes c) (found c) read.ensures.0 c.in-Accepted.is _ _ read.ensures.1
 
-items_postfix : (c : tie.In-Accepted) → Postfix (found c).items-1
+items_postfix : (c : tie.In-Accepted) → Postfix (found c).items
 items_postfix c =
     subst (λ (r : PatternRead). Postfix r.items)
     (sym (all_read (bytes c) (found c) c.read_pattern-read.ensures.0 c.in-Accepted.is))
     (plan_postfix (bytes c) (passed c))
 
-alphabet : (c : tie.In-Accepted) → (found c).reading-1.plan.alphabet ≡ (plan_of (bytes c)).alphabet
+alphabet : (c : tie.In-Accepted) → (found c).reading.plan.alphabet ≡ (plan_of (bytes c)).alphabet
 alphabet c =
     ap (λ (r : PatternRead). r.reading.plan.alphabet)
     (all_read (bytes c) (found c) c.read_pattern-read.ensures.0 c.in-Accepted.is)
@@ -77,9 +77,9 @@ enum_told-in-Accepted-typed_found c = search rules
 -- both tables of items are postfix: which of them is judged is left to the promise
 settle_plan-requires : tie.Need-settle_plan-requires
 settle_plan-requires c κs =
-    let typed-items = text_postfix (text_bytes c.before.before.before.before.before.before.before.before.before) _ c.read_text-typed.result (told c.before.before.before.before.before.before.before.before.before) c.in-Accepted-typed_found.is in
-    let own_items = items_postfix c.before.before.before.before.before.before.before.before.before.before in
-    ((plan_of (bytes c.before.before.before.before.before.before.before.before.before.before), kept c.before.before.before.before.before.before.before.before.before.before), search (typed-items, own_items))
+    let typed-items = text_postfix (text_bytes c.before.before.before.before.before.before.before.before) _ c.read_text-typed.result (told c.before.before.before.before.before.before.before.before) c.in-Accepted-typed_found.is in
+    let own_items = items_postfix c.before.before.before.before.before.before.before.before.before in
+    ((plan_of (bytes c.before.before.before.before.before.before.before.before.before), kept c.before.before.before.before.before.before.before.before.before), search (typed-items, own_items))
 
 returns-in-Refused : tie.Need-returns-in-Refused
 returns-in-Refused c =
@@ -96,14 +96,14 @@ returns-in-Refused c =
 
 returns-in-Refused-typed_found : tie.Need-returns-in-Refused-typed_found
 returns-in-Refused-typed_found c =
-    let b = plan_bytes c.before.before.before in
-    let w = text_bytes c.before.before.before in
-    let q = typed w (told c.before.before.before).tree in
-    let late = refused_by_text w _ c.read_text-typed.result (told c.before.before.before) c.in-Refused-typed_found.m c.in-Refused-typed_found.is in
+    let b = plan_bytes c.before in
+    let w = text_bytes c.before in
+    let q = typed w (told c.before).tree in
+    let late = refused_by_text w _ c.read_text-typed.result (told c.before) c.in-Refused-typed_found.m c.in-Refused-typed_found.is in
     record {
-      tree = (told c.before.before.before).tree;
-      reading = (told c.before.before.before).reading-1;
-      judged = turned_down _ (plan_of b) (expression_by q b) _ _ c.in-Refused-typed_found.m (refused_text q _ b (passed c.before.before.before.before) c.in-Refused-typed_found.m late) refl;
+      tree = (told c.before).tree;
+      reading = (told c.before).reading;
+      judged = turned_down _ (plan_of b) (expression_by q b) _ _ c.in-Refused-typed_found.m (refused_text q _ b (passed c.before.before) c.in-Refused-typed_found.m late) refl;
     }
 
 shape_of-row : tie.Need-shape_of-row
@@ -111,15 +111,15 @@ shape_of-row c = search rules
 
 returns-in-Accepted-typed_found : tie.Need-returns-in-Accepted-typed_found
 returns-in-Accepted-typed_found c =
-    let b = plan_bytes c.before.before.before.before.before.before.before.before.before.before.before.before in
-    let w = text_bytes c.before.before.before.before.before.before.before.before.before.before.before.before in
+    let b = plan_bytes c.before.before.before.before.before.before.before.before.before.before.before in
+    let w = text_bytes c.before.before.before.before.before.before.before.before.before.before.before in
     let fine = c.in-Accepted-typed_found.is in
-    let free = passed_text w _ c.read_text-typed.result (told c.before.before.before.before.before.before.before.before.before.before.before.before) fine in
-    let pattern = text_pattern w _ c.read_text-typed.result (told c.before.before.before.before.before.before.before.before.before.before.before.before) fine in
+    let free = passed_text w _ c.read_text-typed.result (told c.before.before.before.before.before.before.before.before.before.before.before) fine in
+    let pattern = text_pattern w _ c.read_text-typed.result (told c.before.before.before.before.before.before.before.before.before.before.before) fine in
     record {
-      tree = (told c.before.before.before.before.before.before.before.before.before.before.before.before).tree;
-      reading = (told c.before.before.before.before.before.before.before.before.before.before.before.before).reading-1;
-      judged = judged_late (typed w (told c.before.before.before.before.before.before.before.before.before.before.before.before).tree) b _ (passed c.before.before.before.before.before.before.before.before.before.before.before.before.before) free _ pattern _ _ (c.settle_plan.ensures (plan_of b) (kept c.before.before.before.before.before.before.before.before.before.before.before.before.before));
+      tree = (told c.before.before.before.before.before.before.before.before.before.before.before).tree;
+      reading = (told c.before.before.before.before.before.before.before.before.before.before.before).reading;
+      judged = judged_late (typed w (told c.before.before.before.before.before.before.before.before.before.before.before).tree) b _ (passed c.before.before.before.before.before.before.before.before.before.before.before.before) free _ pattern _ _ (c.settle_plan.ensures (plan_of b) (kept c.before.before.before.before.before.before.before.before.before.before.before.before));
     }
 
 pub judge_text_spec : {M : Type 1} → statement M
