@@ -1,5 +1,5 @@
 -- The automaton of a pattern in lent arrays. Document 01, "Pattern and automaton".
-use Rattle.std.specs.Prelude.{cond, List, [], ◌∷◌, ℕ, length}
+use Rattle.std.specs.Prelude.{List, [], ◌∷◌, ℕ, length}
 use Rattle.std.proofs.Math.Option.{Option, none, some}
 use Rattle.rows.specs.Rows.{row, place}
 use Rattle.sections.specs.Layout.{plan_of}

@@ -1,6 +1,6 @@
 -- The tables of a plan in lent arrays, as they are read back of its bytes. Document 01, "The bit-packed plan" and "Four questions for each public
 -- operation".
-use Rattle.std.specs.Prelude.{List, [], ◌∷◌, cond, ℕ, ◌+◌, ◌*◌, ◌-◌, ltb, length}
+use Rattle.std.specs.Prelude.{List, [], ◌∷◌, cond, ℕ, ◌+◌, ◌*◌, ◌-◌, ltb}
 use Rattle.std.proofs.Math.Option.{Option, none, some}
 use Rattle.rows.specs.Rows.{row, padded}
 use Rattle.sections.specs.declared.Kind.{Kind}

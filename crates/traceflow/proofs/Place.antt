@@ -12,7 +12,7 @@ use lib.Seq.{take_all}
 use Rattle.sections.specs.Layout.{head_of, pattern_at}
 use Rattle.plan.specs.Checks.{refuse, first}
 use Rattle.plan.proofs.Tests.{both_none, first_last}
-use Rattle.pattern.specs.Refusals.{rest, readable, too_many_states, acceptable, part_under, pattern_part}
+use Rattle.pattern.specs.Refusals.{rest, readable, too_many_states, acceptable, pattern_part}
 use Rattle.pattern.proofs.Order.{pattern_there}
 use Rattle.pattern.proofs.Part.{before_items, part_is, part_empty}
 use Rattle.traceflow.specs.Exported.{place_under, place_of, at_end}

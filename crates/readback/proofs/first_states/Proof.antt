@@ -1,6 +1,5 @@
 -- `first_states` fills its array from the front. Assumes nothing.
 use mathlib.Core.Path.{refl, ◌∙◌, ap}
-use mathlib.Core.List.{List}
 use Prim.Native.Nat.{ℕ, ◌-◌, ◌≤◌}
 use mathlib.Core.Path.{◌≡◌}
 use native.Mathlib.Omega.{arith}

@@ -15,7 +15,7 @@ use Rattle.pattern.specs.Reading.{accepted}
 use Rattle.pattern.proofs.Order.{answer}
 use Rattle.pattern.proofs.Part.{read_refused, read_accepted, plan_postfix, refused_early}
 use Rattle.readback.specs.Tables.{number_of}
-use Rattle.readback.specs.Property.{Property, property, property_under, limit}
+use Rattle.readback.specs.Property.{property, property_under, limit}
 use Rattle.readback.proofs.Told.{property_told, by_limit}
 use borrow.Author.Rules.{rules}
 use Rattle.readback.proofs.property_of.Statement.{statement}

@@ -1,10 +1,9 @@
 -- `property_under` numbers the states and hands them over with their moves, or 16. Assumes nothing.
 use mathlib.Core.Path.{◌≡◌, sym, ap, ◌∙◌}
 use mathlib.Core.List.{List, [], ◌∷◌}
-use mathlib.Core.Option.{Option, none, some}
+use mathlib.Core.Option.{Option, some}
 use Prim.Native.Nat.{ℕ, ◌≤◌}
 use native.Mathlib.Omega.{arith}
-use lib.ListN.{length}
 use Rattle.rows.specs.Rows.{row, place}
 use Rattle.rows.proofs.Rows.{padded_places}
 use Rattle.expressions.specs.Expression.{Expression}
@@ -15,8 +14,7 @@ use Rattle.positions.specs.declared.Positions.{Positions}
 use Rattle.positions.proofs.Whole.{pattern_few}
 use Rattle.automaton.specs.declared.States.{States}
 use Rattle.automaton.specs.Automaton.{states_of, table_of}
-use Rattle.automaton.specs.Tables.{Of, Apart, set_table, state_table}
-use Rattle.automaton.specs.Search.{grown}
+use Rattle.automaton.specs.Tables.{Of, set_table, state_table}
 use Rattle.automaton.proofs.Growth.{kept_count, kept_fits}
 use Rattle.automaton.proofs.Language.{states_some, states_apart}
 use Rattle.readback.specs.Property.{Property, property, property_with, limit_of}

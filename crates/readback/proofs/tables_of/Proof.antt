@@ -1,15 +1,11 @@
 -- `tables_of` reads the plan and hands its tables over. Assumes nothing.
 use mathlib.Core.Path.{◌≡◌, sym, ap, ◌∙◌}
-use mathlib.Core.List.{List}
 use mathlib.Core.Option.{none, some}
-use Prim.Native.Nat.{ℕ}
 use Rattle.sections.specs.Layout.{plan_of}
-use Rattle.plan.specs.Checks.{first}
 use Rattle.plan.proofs.Legality.{legal}
 use Rattle.rows.specs.Rows.{row}
 use Rattle.reader.proofs.Answered.{words_read}
 use Rattle.pattern.specs.declared.PatternRead.{PatternRead}
-use Rattle.pattern.specs.Refusals.{readable}
 use Rattle.pattern.specs.Reading.{accepted}
 use Rattle.pattern.proofs.Order.{answer}
 use Rattle.pattern.proofs.Part.{read_refused, read_accepted, before_items}
