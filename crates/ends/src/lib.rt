@@ -62,7 +62,7 @@ fn all_stand(jobs: Jobs) -> bool
 }
 
 // Whether an arc of a section has the fault of refusal 7, of 8, of 9.
-#[derive(Drop)]
+#[derive(Clone, Copy)]
 struct Faults {
     apart: bool,
     leaving: bool,
