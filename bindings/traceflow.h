@@ -1,4 +1,4 @@
-/* The trace flow verifier, for C. Link libtraceflow.a, which `rt staticlib traceflow` proves and writes to target/staticlib.
+/* The trace flow verifier, for C. Link libtraceflow.a, which `rt lib` in crates/traceflow proves and writes to out/ there.
  *
  * The functions are total: they take any bytes, always return, and never fail. Pointers are not null, not even to nothing;
  * `plan` has plan_bytes bytes, `text` text_bytes and `row` row_places places, and what is written to overlaps nothing else. */

@@ -8,7 +8,7 @@ use std::time::Instant;
 
 const USAGE: &str = "usage: differential [--count N] [--seed S] [--start I] [--program FILE]
 Compares the library on N plans, each with a text, from number I on. Every run also explores small plans of the seed and tries the program, FILE or
-target/bin/judge, on inputs of the seed, whatever N and I.";
+crates/judge/out/judge, on inputs of the seed, whatever N and I.";
 
 /// A run of so many plans or more must meet all that is asked for.
 const FULL_LENGTH: u64 = 20_000;
@@ -16,8 +16,8 @@ const FULL_LENGTH: u64 = 20_000;
 /// How many plans a run has if nothing is said.
 const COUNT: u64 = 200_000;
 
-/// The program that `rt check judge` builds.
-const PROGRAM: &str = concat!(env!("CARGO_MANIFEST_DIR"), "/../target/bin/judge");
+/// The program that `rt run` builds in crates/judge.
+const PROGRAM: &str = concat!(env!("CARGO_MANIFEST_DIR"), "/../crates/judge/out/judge");
 
 /// What the command line asks for.
 struct Options {
