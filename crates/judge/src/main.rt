@@ -9,11 +9,11 @@ use std::env::{Env, FillError};
 use std::io;
 use std::io::Write;
 
-fn print(rt: &impl Print, line: Line) -> io::Result<()>
+fn print(rt: &impl Print, line: Line)
     requires { line.used ≤ 128 }
 {
     let bytes = line.bytes;
-    io::writer(rt).write_all(&bytes[..line.used])
+    let _ = io::writer(rt).write_all(&bytes[..line.used]);
 }
 
 // Whether there is an argument of this number. Argument 0 is the program's name.
@@ -26,7 +26,7 @@ fn has_argument(rt: &impl Env, number: usize) -> bool {
 }
 
 // Judges a plan by the argument. One that does not fit the buffer is longer than any text: the whole buffer stands for it.
-fn judge_by_argument(rt: &(impl Print + Env), plan: &[u8]) -> io::Result<()> {
+fn judge_by_argument(rt: &(impl Print + Env), plan: &[u8]) {
     let mut text = [0u8; 4096];
     match rt.arg(1, &mut text) {
         Ok(n) => print(rt, report::line_for_text(plan, &text[..n])),
@@ -34,12 +34,13 @@ fn judge_by_argument(rt: &(impl Print + Env), plan: &[u8]) -> io::Result<()> {
     }
 }
 
-fn main(rt: HostRuntime) -> io::Result<()> {
+fn main(rt: HostRuntime) {
     if has_argument(&rt, 2) {
-        return eprintln!(rt; "judge: more than one text");
+        let _ = eprintln!(rt; "judge: more than one text");
+        return;
     }
     let mut input = [0u8; 4096];
-    let n = input::read_full(&mut rt.stdin(), &mut input)?;
+    let n = input::read_full(&mut rt.stdin(), &mut input);
     if has_argument(&rt, 1) {
         judge_by_argument(&rt, &input[..n])
     } else {

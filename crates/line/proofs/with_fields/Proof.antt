@@ -108,7 +108,7 @@ final_set_lem c =
     let s = of_final c in
     set_behind (up_to_fill s) (text " final ") s.args.c.ends 103 (fill c.before.before.before) c.with_set.ensures
 
--- ---- the needs
+-- ---- the goals
 
 blank-requires : tie.Need-blank-requires
 blank-requires c κs = search rules
