@@ -2,3 +2,4 @@
 pub mod Lending
 pub mod Parts
 pub mod Settled
+pub mod Read

@@ -1,9 +1,10 @@
 -- Plans, and what the checks before the pattern answer to each, by evaluation.
-use mathlib.Core.Path.{◌≡◌, refl, ap}
+use mathlib.Core.Path.{◌≡◌, refl}
 use mathlib.Core.List.{List, [], ◌∷◌, ◌++◌, map, Memᴰ}
 use mathlib.Core.Option.{Option, none, some}
 use Prim.Native.Nat.{ℕ, zero, suc, ◌+◌, ◌*◌, ◌^◌}
 use lib.ListN.{take, set, replicate}
+use Rattle.std.specs.Prelude.{Result, Ok, IfOk}
 use Rattle.fields.specs.Bits.{bits_of, value_from, field_at, events_from, events_at}
 use Rattle.sections.specs.declared.Kind.TheVariants.{Every, None}
 use Rattle.rows.specs.Rows.{row}
@@ -12,7 +13,11 @@ use Rattle.plan.specs.Checks.{first, any_from}
 use Rattle.plan.specs.Nodes.{owners_from, total}
 use Rattle.plan.specs.Refusals.{counts_outside, order}
 use Rattle.plan.proofs.Cases.{P, Fields, packed, head, job, service, step, channel, link, one, agree}
-use Rattle.reader.specs.Reading.{accepted, answered, reading_of}
+use Rattle.refusals.specs.declared.Refusal.{Refusal}
+use Rattle.refusals.specs.Numbers.{refusal_of}
+use Rattle.reader.specs.declared.Reading.{Reading}
+use Rattle.reader.specs.Reading.{accepted}
+use Rattle.reader.proofs.Answered.{accepted_is}
 
 -- ---- plan P of document 01
 
@@ -40,9 +45,9 @@ pub P_passes : first order P ≡ none
 unfolding bits_of value_from field_at events_from events_at row plan_of first any_from owners_from total counts_outside
 P_passes = refl
 
-pub P_read : reading_of P ≡ accepted P
-unfolding reading_of
-P_read = ap (λ (o : Option ℕ). answered o P) P_passes
+-- what meets the promise of the reader on P is the plan
+pub P_read : (r : Result Reading Refusal) → refusal_of r ≡ first order P → IfOk r (λ x. x ≡ accepted P) → r ≡ Ok (accepted P)
+P_read r e h = accepted_is P r e h P_passes
 
 -- "kind 1 (0 every, 1 none)", and the alphabet's "last bit event 31"
 pub P_changed : ((plan_of (set P 5 0x02)).kind ≡ None) × ((plan_of (set P 10 0x08)).alphabet ≡ 2 ^ 1 + 2 ^ 31)

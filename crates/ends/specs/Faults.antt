@@ -1,42 +1,31 @@
--- What the tests of entries, exits and arcs go by: arrays that stand for the job of a node, the exit of a job and its last bit. Promises to
--- other crates speak of what is lent alone.
+-- What the tests of entries, exits and arcs go by: the tables of a plan, and an array that stands for the job of a node. Promises to other crates
+-- speak of what is lent alone.
 use Rattle.std.specs.Prelude.{◌≡◌, List, ℕ, ◌≤◌, length}
 use Rattle.sections.specs.declared.Decoded.{Decoded}
-use Rattle.sections.specs.declared.Jobs.{Jobs}
 use Rattle.sections.specs.Plan.{Arc, Plan}
 use Rattle.rows.specs.Rows.{padded, place}
-use Rattle.sections.specs.Tables.{exits, standings, end_by, jobs_in, decoded_of}
+use Rattle.sections.specs.Tables.{end_by, decoded_of}
 use Rattle.plan.specs.Checks.{any}
 use Rattle.plan.specs.Nodes.{owners}
 use Rattle.plan.specs.Refusals.{apart, leaving, unknown}
 use Rattle.words.specs.Words.{arcs_on}
-use Rattle.ends.specs.declared.Bounds.{Bounds}
 use Rattle.ends.specs.declared.Faults.{Faults}
 
-abbrev pub bounds_of : Plan → Bounds
-bounds_of p = record {
-  nodes = p.nodes;
-  exit = padded 16 (exits p.jobs);
-  standing = padded 16 (standings p.jobs);
-  channels = length p.channels;
-}
-
 -- which faults the arcs of a section have
-abbrev pub faults_of : Bounds → List ℕ → List Arc → Faults
-faults_of g owner l = record {
-  apart = any (apart g.nodes (place owner)) l;
-  leaving = any (leaving (place owner) (place g.exit) (end_by g.standing)) l;
-  unknown = any (unknown g.channels) l;
+abbrev pub faults_of : Decoded → List ℕ → List Arc → Faults
+faults_of d owner l = record {
+  apart = any (apart d.nodes (place owner)) l;
+  leaving = any (leaving (place owner) (place d.jobs.exit) (end_by d.jobs.standing)) l;
+  unknown = any (unknown d.channels.count) l;
 }
 
--- the jobs, the job of each node, and the faults are those of the plan p
-pub record Tested (p : Plan) (nodes : ℕ) (owner : List ℕ) (jobs : Jobs) (s c a : Faults) : Type 0 where
-  pub same_nodes : nodes ≡ p.nodes
-  pub jobs_kept : jobs_in jobs ≡ p.jobs
+-- the tables, the job of each node, and the faults are those of the plan p
+pub record Tested (p : Plan) (d : Decoded) (owner : List ℕ) (s c a : Faults) : Type 0 where
+  pub tables : d ≡ decoded_of p
   pub owners_kept : owner ≡ padded 256 (owners p.jobs)
-  pub steps : s ≡ faults_of (bounds_of p) owner p.steps
-  pub calls : c ≡ faults_of (bounds_of p) owner p.calls
-  pub accepts : a ≡ faults_of (bounds_of p) owner p.accepts
+  pub steps : s ≡ faults_of (decoded_of p) owner p.steps
+  pub calls : c ≡ faults_of (decoded_of p) owner p.calls
+  pub accepts : a ≡ faults_of (decoded_of p) owner p.accepts
 
 -- the tables, the job of each node and the words are those of the plan p, and hold no more than they have places for
 pub record Lent (p : Plan) (d : Decoded) (owner words : List ℕ) : Type 0 where

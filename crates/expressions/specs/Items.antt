@@ -1,12 +1,9 @@
 -- Postfix items, and the expression that they build. Document 01, "The bit-packed plan".
 use Rattle.std.specs.Prelude.{List, [], ◌∷◌, ℕ}
 use Rattle.expressions.specs.Expression.{Expression, eps, set, seq, alt, star}
-
--- "0 the empty string, 1 one event of a set, 2 sequence, 3 choice, 4 star"
-pub data Item : Type 0 where
-  empty : Item
-  events : ℕ → Item
-  sequence choice repeat : Item
+-- "0 the empty string, 1 one event of a set, 2 sequence, 3 choice, 4 star": the items of the code
+pub use Rattle.expressions.specs.declared.Item.{Item}
+pub use Rattle.expressions.specs.declared.Item.TheVariants.{Empty as empty, Events as events, Sequence as sequence, Choice as choice, Repeat as repeat}
 
 -- "sequence and choice take the last two operands, .. star takes the last"
 abbrev pub arity : Item → ℕ

@@ -12,10 +12,8 @@ pub fn field(plan: &[u8], at: usize, width: usize) -> usize
     let skip = at % 8;
     let count = (skip + width + 7) / 8;
     let mut acc: usize = 0;
-    let mut i: usize = 0;
-    while i < count {
-        acc = acc * 256 + plan[at / 8 + i] as usize;
-        i += 1;
+    for byte in &plan[at / 8..at / 8 + count] {
+        acc = acc * 256 + usize::from(*byte);
     }
     (acc >> (8 * count - skip - width)) % (1 << width)
 }
@@ -28,11 +26,9 @@ pub fn events(plan: &[u8], at: usize) -> u32
 {
     let mut rest = field(plan, at, 31);
     let mut set: usize = 0;
-    let mut i: usize = 0;
-    while i < 31 {
+    for _ in 0..31usize {
         set = set * 2 + rest % 2;
-        rest = rest / 2;
-        i += 1;
+        rest /= 2;
     }
     (set * 2) as u32
 }

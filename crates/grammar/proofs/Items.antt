@@ -5,7 +5,9 @@ use Prim.Native.Nat.{ℕ, ◌≤◌}
 use native.Mathlib.Omega.{arith}
 use lib.ListN.{length}
 use Rattle.expressions.specs.Expression.{Expression}
-use Rattle.expressions.specs.Items.{Item, sequence, choice, repeat, arity, push, push_all, operands, newest, pattern_of}
+use Rattle.expressions.specs.declared.Item.{Item}
+use Rattle.expressions.specs.declared.Item.TheVariants.{Sequence as sequence, Choice as choice, Repeat as repeat}
+use Rattle.expressions.specs.Items.{arity, push, push_all, operands, newest, pattern_of}
 use Rattle.grammar.specs.Grammar.{Tree, empty_string, one_of, noneOf, followed, either, starred}
 use Rattle.grammar.specs.Meaning.{expression_of, items_of}
 

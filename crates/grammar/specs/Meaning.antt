@@ -6,7 +6,8 @@ use Rattle.std.specs.Int.Bits.{bit_or, bit_and}
 use Rattle.masks.specs.Mask.{has}
 use Rattle.expressions.specs.Expression as expression
 use Rattle.expressions.specs.Expression.{Expression}
-use Rattle.expressions.specs.Items.{Item, empty, events, sequence, choice, repeat}
+use Rattle.expressions.specs.declared.Item.{Item}
+use Rattle.expressions.specs.declared.Item.TheVariants.{Empty as empty, Events as events, Sequence as sequence, Choice as choice, Repeat as repeat}
 use Rattle.plan.specs.Checks.{Check, refuse, any}
 use Rattle.grammar.specs.Grammar.{Tree, empty_string, one_of, noneOf, followed, either, starred}
 

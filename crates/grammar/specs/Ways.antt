@@ -1,8 +1,8 @@
 -- How a text is read from left to right. No public promise speaks of it.
-use Rattle.std.specs.Prelude.{◌≡◌, Bool, false, ◌&&◌, cond, List, [], ◌∷◌, ℕ, ◌-◌, leb, eqb, drop}
+use Rattle.std.specs.Prelude.{◌≡◌, Bool, false, ◌&&◌, cond, List, [], ◌∷◌, map, ℕ, ◌-◌, leb, eqb, drop}
 use Rattle.std.proofs.Math.Option.{Option, none, some}
-use Rattle.rows.specs.Rows.{row, place}
-use Rattle.expressions.specs.Items.{Item, empty, events, sequence, choice, repeat}
+use Rattle.expressions.specs.declared.Item.{Item}
+use Rattle.expressions.specs.declared.Item.TheVariants.{Empty as empty, Events as events, Sequence as sequence, Choice as choice, Repeat as repeat}
 use Rattle.grammar.specs.Grammar.{Tree, empty_string, one_of, noneOf, followed, either, starred, semicolon, bar, asterisk, nought, opening, closing, opening_set, closing_set, caret}
 use Rattle.grammar.specs.Meaning.{listed, without}
 
@@ -107,9 +107,9 @@ item_from a (c ∷ w) =
     (cond (eqb c opening_set) (events (set_from a w))
     (cond (eqb c semicolon) sequence (cond (eqb c bar) choice (cond (eqb c asterisk) repeat empty))))
 
--- the items whose first bytes stand at the first n places of the order
-unfoldable pub items_by : (a : ℕ) → (text order : List ℕ) → (n : ℕ) → List Item
-items_by a text order n = row n (λ i. item_from a (drop (place order i) text))
+-- the items whose first bytes stand at the places of an order
+abbrev pub items_by : (a : ℕ) → (text order : List ℕ) → List Item
+items_by a text order = map (λ i. item_from a (drop i text)) order
 
 -- ---- the letters that stand in a text, as events
 

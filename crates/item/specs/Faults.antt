@@ -3,7 +3,9 @@ use Rattle.std.specs.Prelude.{Bool, ◌&&◌, cond, not, List, [], ◌∷◌, �
 use Rattle.std.specs.Int.Bits.{bit_and}
 use Rattle.fields.specs.Bits.{field_at, events_at}
 use Rattle.plan.specs.Checks.{Check, refuse}
-use Rattle.expressions.specs.Items.{Item, empty, events, sequence, choice, repeat, arity}
+use Rattle.expressions.specs.declared.Item.{Item}
+use Rattle.expressions.specs.declared.Item.TheVariants.{Empty as empty, Events as events, Sequence as sequence, Choice as choice, Repeat as repeat}
+use Rattle.expressions.specs.Items.{arity}
 
 -- ---- one item
 
@@ -60,3 +62,7 @@ faults b alphabet =
     ∷ refuse 12 (λ p. is_events b p && strange alphabet (set_at b p.at))
     ∷ refuse 13 (λ p. ltb p.depth (arity (item_at b p.at)))
     ∷ []
+
+-- those of them that are asked of a set, of the item that begins at a bit
+abbrev pub set_faults : List ℕ → ℕ → List (Check ℕ)
+set_faults b alphabet = refuse 10 (λ at. cut b (at + 34)) ∷ refuse 12 (λ at. strange alphabet (set_at b at)) ∷ []

@@ -1,13 +1,14 @@
 // One item of a pattern: its bits, its operands, and the refusals 10 to 13.
 #![tactic(auto)]
 
-ghost use Rattle.std.specs.Prelude.{◌≡◌, ◌≤◌};
-ghost use Rattle.std.proofs.Math.Option.{some};
-ghost use Rattle.expressions.specs.Items.{empty, arity};
-ghost use Rattle.item.specs.Faults.{cut, item_of, width, strange};
-ghost use Rattle.item.specs.Found.{found_as, found};
+ghost use Rattle.std.specs.Prelude.{◌≡◌, ◌≤◌, IfOk};
+ghost use Rattle.plan.specs.Checks.{first};
+ghost use Rattle.refusals.specs.Numbers.{refusal_of};
+ghost use Rattle.item.specs.Faults.{cut, set_at, item_at, width, strange, set_faults, faults};
+ghost use Rattle.item.specs.Found.{kind_of};
 
-use plan::Outcome;
+use expressions::Item;
+use refusals::Refusal;
 
 // Whether the bytes end before the bit `n`.
 fn is_cut(rest: &[u8], n: usize) -> bool
@@ -17,24 +18,11 @@ fn is_cut(rest: &[u8], n: usize) -> bool
     rest.len() < (n + 7) / 8
 }
 
-// How many operands an item of a kind takes, whatever its set.
-pub fn arity_of(kind: u8) -> usize
-    ensures { (result ≡ arity (item_of kind 0)) × (result ≤ 2) }
+// How many bits an item has.
+pub fn width_of(item: Item) -> usize
+    ensures { result ≡ width (kind_of item) }
 {
-    if kind < 2 {
-        return 0;
-    }
-    if kind < 4 {
-        return 2;
-    }
-    1
-}
-
-// How many bits it has.
-pub fn width_of(kind: usize) -> usize
-    ensures { result ≡ width kind }
-{
-    if kind == 1 { 34 } else { 3 }
+    if let Item::Events(_) = item { 34 } else { 3 }
 }
 
 // Whether an event of the set is none of the alphabet.
@@ -44,58 +32,42 @@ fn is_strange(alphabet: u32, set: u32) -> bool
     set & alphabet != set
 }
 
-// One item, or its refusal.
-#[derive(Drop)]
-pub struct Found {
-    pub outcome: Outcome,
-    pub kind: u8,
-    pub set: u32,
-}
-
-// A refusal in place of an item.
-fn fault(n: u32) -> Found
-    ensures { result ≡ found_as (some n) empty }
-{
-    Found {
-        outcome: Outcome::Refused(n),
-        kind: 0,
-        set: 0,
-    }
-}
-
-// The item that begins at the bit `at`, where there are `depth` operands.
-pub fn item_at(rest: &[u8], alphabet: u32, at: usize, depth: usize) -> Found
+// The set of the item that begins at the bit `at`, where its kind has one; or 10 where the bytes end inside it, 12 where an event of it is none of
+// the alphabet.
+fn read_set(rest: &[u8], alphabet: u32, at: usize) -> Result<u32, Refusal>
     requires { at ≤ 4096 }
-    ensures { result ≡ found rest.now alphabet (record { at = at; depth = depth }) }
+    ensures refusal { refusal_of result ≡ first (set_faults rest.now alphabet) at }
+    ensures set { IfOk result (λ set. set ≡ set_at rest.now at) }
+{
+    if is_cut(rest, at + 34) {
+        return Err(Refusal::ItemsCut);
+    }
+    let set = fields::events(rest, at + 3);
+    if is_strange(alphabet, set) {
+        return Err(Refusal::StrangeEvent);
+    }
+    Ok(set)
+}
+
+// The item that begins at the bit `at`, where there are `depth` operands, or its refusal.
+pub fn item_at(rest: &[u8], alphabet: u32, at: usize, depth: usize) -> Result<Item, Refusal>
+    requires { at ≤ 4096 }
+    ensures refusal { refusal_of result ≡ first (faults rest.now alphabet) (record { at = at; depth = depth }) }
+    ensures item { IfOk result (λ item. item ≡ item_at rest.now at) }
 {
     if is_cut(rest, at + 3) {
-        return fault(10);
+        return Err(Refusal::ItemsCut);
     }
-    let kind = fields::field(rest, at, 3);
-    if 4 < kind {
-        return fault(11);
+    let item = match fields::field(rest, at, 3) {
+        0 => Item::Empty,
+        1 => Item::Events(read_set(rest, alphabet, at)?),
+        2 => Item::Sequence,
+        3 => Item::Choice,
+        4 => Item::Repeat,
+        _ => return Err(Refusal::NoKind),
+    };
+    if depth < item.arity() {
+        return Err(Refusal::FewOperands);
     }
-    if kind == 1 {
-        if is_cut(rest, at + 34) {
-            return fault(10);
-        }
-        let set = fields::events(rest, at + 3);
-        if is_strange(alphabet, set) {
-            return fault(12);
-        }
-        return Found {
-            outcome: Outcome::Accepted,
-            kind: 1,
-            set: set,
-        };
-    }
-    let operator = kind as u8;
-    if depth < arity_of(operator) {
-        return fault(13);
-    }
-    Found {
-        outcome: Outcome::Accepted,
-        kind: operator,
-        set: 0,
-    }
+    Ok(item)
 }

@@ -1,15 +1,29 @@
 -- The answer about the items, by what was read of them. Assumes nothing.
-use mathlib.Core.Path.{◌≡◌, ap, ◌∙◌}
+use mathlib.Core.Path.{◌≡◌, refl, ap, ◌∙◌}
 use mathlib.Core.Bool.{true, false}
-use mathlib.Core.List.{List, []}
-use mathlib.Core.Option.{Option, none, some}
+use mathlib.Core.List.{List}
+use mathlib.Core.Option.{none, some, none-ne-some}
 use Prim.Native.Nat.{ℕ, ◌-◌, ◌*◌}
 use borrow.Author.Tests.{eq-eqb, ne_eqb}
 use lib.ListN.{length}
+use Rattle.std.proofs.Common.{Ok, Err}
 use Rattle.fields.specs.Bits.{field_at}
 use Rattle.plan.specs.Checks.{first}
-use Rattle.items.specs.Refusals.{Spot, Read, faulty, up_to, not_one, bytes, trailing, leftovers, refusal_of, items_of, read, items_refusal}
-use Rattle.items.specs.Tables.{answered, items_read_of}
+use Rattle.refusals.specs.declared.Refusal.{Refusal}
+use Rattle.refusals.specs.Numbers.{number}
+use Rattle.items.specs.declared.Scan.{Scan}
+use Rattle.items.specs.Refusals.{Spot, Read, faulty, up_to, depth, not_one, bytes, trailing, refusal_of, read, items_refusal}
+use Rattle.items.specs.Tables.{Scanned}
+
+-- ---- what the scan of the items tells
+
+pub scan_refused : (x : Read) (r : Refusal) → Scanned x (Err r) → x ≡ faulty (number r)
+scan_refused (faulty n) r e = cc
+scan_refused (up_to s) r e = cc
+
+pub scan_done : (x : Read) (t : Scan) → Scanned x (Ok t) → (s : Spot) × (x ≡ up_to s) × (t ≡ record { at = s.at; depth = depth s; items = record { items = s.items } })
+scan_done (faulty n) t e = absurd (none-ne-some n e)
+scan_done (up_to s) t e = (s, refl, cc)
 
 -- ---- refusal 15, by the bytes behind the last item
 
@@ -27,26 +41,23 @@ module _ (b : List ℕ) (s : Spot) where
 -- ---- the answer
 
 module _ (b : List ℕ) (alphabet n : ℕ) where
-  by_read : (x : Read) → read b alphabet n ≡ x → items_read_of b alphabet n ≡ answered (refusal_of b x) (items_of x)
-  unfolding items_read_of items_refusal
-  by_read x e = ap (λ (y : Read). answered (refusal_of b y) (items_of y)) e
+  by_read : (x : Read) → read b alphabet n ≡ x → items_refusal b alphabet n ≡ refusal_of b x
+  unfolding items_refusal
+  by_read x e = ap (refusal_of b) e
 
-  pub answer_faulty : (k : ℕ) → read b alphabet n ≡ faulty k → items_read_of b alphabet n ≡ answered (some k) []
+  pub answer_faulty : (k : ℕ) → read b alphabet n ≡ faulty k → items_refusal b alphabet n ≡ some k
   answer_faulty k e = by_read (faulty k) e
 
   module _ (s : Spot) (e : read b alphabet n ≡ up_to s) where
-    by_leftovers : (o : Option ℕ) → first (leftovers b) s ≡ o → items_read_of b alphabet n ≡ answered o s.items
-    by_leftovers o h = by_read (up_to s) e ∙ ap (λ (x : Option ℕ). answered x s.items) h
-
-    pub answer_14 : not_one s ≡ true → items_read_of b alphabet n ≡ answered (some 14) []
+    pub answer_14 : not_one s ≡ true → items_refusal b alphabet n ≡ some 14
     unfolding first
-    answer_14 h = by_leftovers (some 14) (rw h)
+    answer_14 h = by_read (up_to s) e ∙ rw h refl
 
     module _ (one : not_one s ≡ false) where
-      pub answer_15 : trailing b s ≡ true → items_read_of b alphabet n ≡ answered (some 15) []
+      pub answer_15 : trailing b s ≡ true → items_refusal b alphabet n ≡ some 15
       unfolding first
-      answer_15 h = by_leftovers (some 15) (rw (one, h))
+      answer_15 h = by_read (up_to s) e ∙ rw (one, h) refl
 
-      pub answer_items : trailing b s ≡ false → items_read_of b alphabet n ≡ answered none s.items
+      pub answer_none : trailing b s ≡ false → items_refusal b alphabet n ≡ none
       unfolding first
-      answer_items h = by_leftovers none (rw (one, h))
+      answer_none h = by_read (up_to s) e ∙ rw (one, h) refl

@@ -1,5 +1,5 @@
--- A table keeps its items; items without a refusal are an expression in postfix form. Assumes nothing.
-use mathlib.Core.Path.{◌≡◌, refl, sym, ap, ap₂, fun_ext, ◌∙◌}
+-- Items without a refusal are an expression in postfix form. Assumes nothing.
+use mathlib.Core.Path.{◌≡◌, refl, sym}
 use mathlib.Core.List.{List, [], ◌∷◌, ◌++◌}
 use mathlib.Core.Option.{Option, none, some, none-ne-some}
 use mathlib.Core.Logic.{by_cases}
@@ -9,26 +9,15 @@ use native.Mathlib.Decide.{ℕ_discrete}
 use borrow.Author.Tests.{eqb-true, not-false}
 use lib.ListN.{length, get_or, take, length-append, get_or-append}
 use lib.Seq.{take-append-le, take-append_seam, get_or-append_seam}
-use Rattle.rows.specs.Rows.{row}
-use Rattle.rows.proofs.Rows.{column_at, row_take, row_places}
 use Rattle.plan.specs.Checks.{refuse, first}
 use Rattle.plan.proofs.Tests.{or_none, first_none}
-use Rattle.expressions.specs.Items.{Item, empty, arity, operands}
-use Rattle.item.specs.Faults.{item_at, item_of, faults}
+use Rattle.expressions.specs.declared.Item.{Item}
+use Rattle.expressions.specs.declared.Item.TheVariants.{Empty as empty}
+use Rattle.expressions.specs.Items.{arity, operands}
+use Rattle.item.specs.Faults.{item_at, faults}
 use Rattle.items.specs.Refusals.{Spot, Read, faulty, up_to, point_of, depth, judged, one_more, not_one, bytes, trailing, leftovers, refusal_of, items_of, read, items_in, items_refusal}
-use Rattle.item.specs.Found.{kind_of, set_of}
-use Rattle.items.specs.Tables.{item_table, item_on, items_on}
 use Rattle.items.specs.Postfix.{Postfix}
-use Rattle.item.proofs.Faults.{item_known}
 use Rattle.items.proofs.Progress.{enough, Bounds, read_bounds}
-
--- ---- tables
-
-item_kept : (l : List Item) → item_on (item_table l) ≡ (λ i. get_or l i empty)
-item_kept l = fun_ext (λ i. ap₂ item_of (column_at 64 kind_of empty refl l i) (column_at 64 set_of empty refl l i) ∙ item_known (get_or l i empty))
-
-pub items_kept : (l : List Item) → items_on (item_table l) ≡ l
-items_kept l = ap (row (length l)) (item_kept l) ∙ row_places empty l
 
 -- ---- each operator found its operands
 
@@ -66,20 +55,13 @@ module _ (b : List ℕ) (alphabet : ℕ) where
       let h = (first_none 14 not_one (refuse 15 (trailing b) ∷ []) s e).0 in
       eqb-true _ _ (not-false _ h)
 
-  table_postfix : (n : ℕ) → n ≤ 64 → (x : Read) → Bounds b alphabet n x → AllFed x → refusal_of b x ≡ none → Postfix (item_table (items_of x))
-  table_postfix n few (faulty k) h f e = absurd (none-ne-some k (sym e))
-  table_postfix n few (up_to s) h f e = record {
-    few = omega arith;
-    enough = λ i k.
-        let found : arity (item_on (item_table s.items) i) ≡ arity (get_or s.items i empty) = ap (λ (g : ℕ → Item). arity (g i)) (item_kept s.items) in
-        let before : row i (item_on (item_table s.items)) ≡ take i s.items = ap (row i) (item_kept s.items) ∙ row_take empty s.items i (omega arith) in
-        rw (found, before) (f i k);
-    one = ap (λ (l : List Item). length (operands l)) (items_kept s.items) ∙ left_one s e;
-  }
+  list_postfix : (n : ℕ) → n ≤ 64 → (x : Read) → Bounds b alphabet n x → AllFed x → refusal_of b x ≡ none → Postfix (items_of x)
+  list_postfix n few (faulty k) h f e = absurd (none-ne-some k (sym e))
+  list_postfix n few (up_to s) h f e = record { few = omega arith; enough = f; one = left_one s e }
 
-  pub items_postfix : (n : ℕ) → n ≤ 64 → items_refusal b alphabet n ≡ none → Postfix (item_table (items_in b alphabet n))
+  pub items_postfix : (n : ℕ) → n ≤ 64 → items_refusal b alphabet n ≡ none → Postfix (items_in b alphabet n)
   unfolding items_refusal
-  items_postfix n few e = table_postfix n few (read b alphabet n) (read_bounds b alphabet n) (read_fed n) e
+  items_postfix n few e = list_postfix n few (read b alphabet n) (read_bounds b alphabet n) (read_fed n) e
 
   -- an item has bytes
   some_byte : (n : ℕ) → 1 ≤ n → (x : Read) → Bounds b alphabet n x → refusal_of b x ≡ none → 1 ≤ length b

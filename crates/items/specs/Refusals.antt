@@ -3,7 +3,8 @@ use Rattle.std.specs.Prelude.{Bool, ◌||◌, not, List, [], ◌∷◌, ◌++◌
 use Rattle.std.proofs.Math.Option.{Option, none, some}
 use Rattle.fields.specs.Bits.{field_at}
 use Rattle.plan.specs.Checks.{Check, refuse, first}
-use Rattle.expressions.specs.Items.{Item, operands}
+use Rattle.expressions.specs.declared.Item.{Item}
+use Rattle.expressions.specs.Items.{operands}
 use Rattle.item.specs.Faults.{kind_at, item_at, width, Point, faults}
 
 -- ---- all items

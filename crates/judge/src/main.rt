@@ -2,18 +2,13 @@
 // plan is judged in place of its own items; with more than one nothing is judged.
 #![tactic(auto)]
 
-ghost use Rattle.std.specs.Prelude.{◌≤◌};
-
 use line::Line;
 use std::env::{Env, FillError};
 use std::io;
 use std::io::Write;
 
-fn print(rt: &impl Print, line: Line)
-    requires { line.used ≤ 128 }
-{
-    let bytes = line.bytes;
-    let _ = io::writer(rt).write_all(&bytes[..line.used]);
+fn print(rt: &impl Print, line: Line) {
+    let _ = io::writer(rt).write_all(&line);
 }
 
 // Whether there is an argument of this number. Argument 0 is the program's name.

@@ -4,8 +4,10 @@ use mathlib.Core.List.{List, [], ◌∷◌, map}
 use Prim.Native.Nat.{ℕ, ◌-◌, ◌^◌}
 use Prim.Native.String.{String}
 use Rattle.verdict.specs.declared.Counts.{Counts}
-use Rattle.verdict.specs.declared.Answer.{Answer}
-use Rattle.verdict.specs.declared.Answer.TheVariants.{Refused, Verified, Inconclusive}
+use Rattle.std.specs.Prelude.{Ok, Err}
+use Rattle.refusals.specs.declared.Refusal.TheVariants.{TooShort, WrongSizes, ItemsCut, ShortRow}
+use Rattle.verdict.specs.declared.Verdict.TheVariants.{Verified, Inconclusive}
+use Rattle.verdict.specs.Answer.{Answer}
 use Rattle.line.specs.Line.{text, decimal_within, line_of}
 
 -- states, meetings, ordering, pairs, fill, and the final set
@@ -18,21 +20,21 @@ Case = Answer × String
 
 abbrev cases : List Case
 cases =
-    (Verified (counts 3 0 0 2 33 2), "verified states 3 meetings 0 ordering 0 pairs 2 fill 33 final 0000000000000002\n")
+    (Ok (Verified (counts 3 0 0 2 33 2)), "verified states 3 meetings 0 ordering 0 pairs 2 fill 33 final 0000000000000002\n")
     ∷ (
-      Inconclusive (counts 64 16384 4194304 16384 100 (2 ^ 64 - 1)),
+      Ok (Inconclusive (counts 64 16384 4194304 16384 100 (2 ^ 64 - 1))),
       "inconclusive states 64 meetings 16384 ordering 4194304 pairs 16384 fill 100 final ffffffffffffffff\n",
     )
-    ∷ (Verified (counts 1 10 9 0 0 0), "verified states 1 meetings 10 ordering 9 pairs 0 fill 0 final 0000000000000000\n")
-    ∷ (Inconclusive (counts 5 100 99 18 60 20), "inconclusive states 5 meetings 100 ordering 99 pairs 18 fill 60 final 0000000000000014\n")
+    ∷ (Ok (Verified (counts 1 10 9 0 0 0)), "verified states 1 meetings 10 ordering 9 pairs 0 fill 0 final 0000000000000000\n")
+    ∷ (Ok (Inconclusive (counts 5 100 99 18 60 20)), "inconclusive states 5 meetings 100 ordering 99 pairs 18 fill 60 final 0000000000000014\n")
     ∷ (
-      Inconclusive (counts (2 ^ 32 - 1) 1 2 3 4 81985529216486895),
+      Ok (Inconclusive (counts (2 ^ 32 - 1) 1 2 3 4 81985529216486895)),
       "inconclusive states 4294967295 meetings 1 ordering 2 pairs 3 fill 4 final 0123456789abcdef\n",
     )
-    ∷ (Refused 1, "refused 1\n")
-    ∷ (Refused 5, "refused 5\n")
-    ∷ (Refused 10, "refused 10\n")
-    ∷ (Refused 17, "refused 17\n")
+    ∷ (Err TooShort, "refused 1\n")
+    ∷ (Err WrongSizes, "refused 5\n")
+    ∷ (Err ItemsCut, "refused 10\n")
+    ∷ (Err ShortRow, "refused 17\n")
     ∷ []
 
 pub lines : map (λ (c : Case). line_of c.0) cases ≡ map (λ (c : Case). text c.1) cases

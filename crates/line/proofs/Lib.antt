@@ -1,4 +1,3 @@
 -- Laws of the line.
 pub mod Numbers
-pub mod Fields
 pub mod Cases

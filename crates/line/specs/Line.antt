@@ -1,11 +1,12 @@
 -- The line that tells an answer, in bytes. Document 01, "The pattern part and the program".
-use Rattle.std.specs.Prelude.{cond, List, [], ◌∷◌, ◌++◌, ℕ, zero, suc, ◌/◌, ◌%◌, ltb}
+use Rattle.std.specs.Prelude.{cond, List, [], ◌∷◌, ◌++◌, ℕ, zero, suc, ◌/◌, ◌%◌, ltb, Ok, Err}
 use Prim.Native.Char.{code}
 use Prim.Native.String.{String, [] as end, ◌∷◌ as ◌then◌}
 use Rattle.io.specs.Digits.{hex_digit_ascii, last_digits}
 use Rattle.verdict.specs.declared.Counts.{Counts}
-use Rattle.verdict.specs.declared.Answer.{Answer}
-use Rattle.verdict.specs.declared.Answer.TheVariants.{Refused, Verified, Inconclusive}
+use Rattle.refusals.specs.Numbers.{number}
+use Rattle.verdict.specs.declared.Verdict.TheVariants.{Verified, Inconclusive}
+use Rattle.verdict.specs.Answer.{Answer}
 
 -- the bytes of a text
 abbrev pub text : String → List ℕ
@@ -37,9 +38,9 @@ fields c =
 
 -- "verdict (`verified` or `inconclusive`)", then the fields; "A refusal prints `refused 5`, with its number."
 abbrev pub answer_text : Answer → List ℕ
-answer_text (Refused n) = text "refused " ++ decimal n
-answer_text (Verified c) = text "verified" ++ fields c
-answer_text (Inconclusive c) = text "inconclusive" ++ fields c
+answer_text (Err r) = text "refused " ++ decimal (number r)
+answer_text (Ok (Verified c)) = text "verified" ++ fields c
+answer_text (Ok (Inconclusive c)) = text "inconclusive" ++ fields c
 
 -- "prints one line": it ends with one line feed
 unfoldable pub line_of : Answer → List ℕ

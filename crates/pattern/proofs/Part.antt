@@ -8,34 +8,16 @@ use Prim.Native.Nat.{ℕ}
 use native.Mathlib.Omega.{arith}
 use lib.ListN.{length}
 use Rattle.sections.specs.Layout.{plan_of}
-use Rattle.plan.specs.declared.Outcome.TheVariants.{Accepted, Refused}
 use Rattle.plan.specs.Checks.{refuse, first, or_else}
 use Rattle.plan.specs.Refusals.{order}
-use Rattle.plan.specs.Outcomes.{outcome_of}
 use Rattle.plan.proofs.Tests.{both_none, first_last}
-use Rattle.plan.proofs.Ends.{outcome_refused, outcome_accepted}
 use Rattle.plan.proofs.Legality.{legal}
-use Rattle.items.specs.Tables.{item_table}
 use Rattle.items.specs.Postfix.{Postfix}
 use Rattle.items.proofs.Kept.{items_postfix, items_bytes}
 use Rattle.pattern.specs.Refusals.{rest, items_of_plan, bad_items, readable, too_many_states, acceptable, part_under, pattern_part, start_under, part_start, PartOf}
-use Rattle.pattern.specs.Reading.{answered, pattern_read_of}
 use Rattle.pattern.proofs.Order.{readable_parts}
 
--- ---- what the reader's answer tells
-
-outcome_is : (o : Option ℕ) (b : List ℕ) → (answered o b).reading.outcome ≡ outcome_of o
-outcome_is none b = refl
-outcome_is (some n) b = refl
-
-module _ (b : List ℕ) where
-  pub read_refused : (n : ℕ) → (pattern_read_of b).reading.outcome ≡ Refused n → first readable b ≡ some n
-  unfolding pattern_read_of
-  read_refused n e = outcome_refused (first readable b) n (sym (outcome_is (first readable b) b) ∙ e)
-
-  pub read_accepted : (pattern_read_of b).reading.outcome ≡ Accepted → first readable b ≡ none
-  unfolding pattern_read_of
-  read_accepted e = outcome_accepted (first readable b) (sym (outcome_is (first readable b) b) ∙ e)
+-- ---- where neither the plan nor its items have a refusal
 
 module _ (b : List ℕ) (passed : first readable b ≡ none) where
   parts : (first order b ≡ none) × (bad_items b ≡ none)
@@ -45,7 +27,7 @@ module _ (b : List ℕ) (passed : first readable b ≡ none) where
   before_items = parts.0
 
   -- the items are an expression in postfix form, and they have bytes
-  pub plan_postfix : Postfix (item_table (items_of_plan b))
+  pub plan_postfix : Postfix (items_of_plan b)
   plan_postfix = items_postfix (rest b) (plan_of b).alphabet (plan_of b).items (legal b before_items).items parts.1
 
   rest_some : rest b ≡ [] → ⊥

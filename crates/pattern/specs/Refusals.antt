@@ -5,7 +5,8 @@ use Rattle.sections.specs.Layout.{head_of, pattern_at, plan_of}
 use Rattle.plan.specs.Checks.{Check, refuse, first}
 use Rattle.plan.specs.Refusals.{order}
 use Rattle.expressions.specs.Expression.{Expression}
-use Rattle.expressions.specs.Items.{Item, pattern_of}
+use Rattle.expressions.specs.declared.Item.{Item}
+use Rattle.expressions.specs.Items.{pattern_of}
 use Rattle.items.specs.Refusals.{items_in, items_refusal}
 use Rattle.automaton.specs.Automaton.{states_of}
 

@@ -1,5 +1,5 @@
 -- The answer of the checks of what a plan says, by which of their tests hold, and of all checks. Assumes nothing.
-use mathlib.Core.Path.{◌≡◌, refl, sym, ap, ◌∙◌}
+use mathlib.Core.Path.{◌≡◌, sym, ap, ◌∙◌}
 use mathlib.Core.Bool.{true, false}
 use mathlib.Core.Option.{Option, none, some}
 use mathlib.Core.List.{List, map}
@@ -9,11 +9,9 @@ use lib.Dec.{eqb}
 use Rattle.sections.specs.Plan.{Job, Plan}
 use Rattle.sections.specs.Layout.{plan_of}
 use Rattle.sections.specs.Tables.{sizes}
-use Rattle.plan.specs.declared.Outcome.TheVariants.{Accepted, Refused}
 use Rattle.plan.specs.Checks.{Check, or_else, first, any}
 use Rattle.plan.specs.Nodes.{total}
 use Rattle.plan.specs.Refusals.{sizes_wrong, wrong_sizes, stray_ends, none_ends, split_ends, exit_left, no_channel, framing, ends, shape, order}
-use Rattle.plan.specs.Outcomes.{outcome_of}
 use Rattle.plan.proofs.Tests.{both_none, or_none, first_append, first_said}
 
 -- ---- refusals 5 to 9 and 21
@@ -72,13 +70,3 @@ order_past b e = order_parts b ∙ ap (λ (o : Option ℕ). or_else o (first sha
 -- where no refusal applies
 pub order_none : (b : List ℕ) → first order b ≡ none → (first framing b ≡ none) × (first shape (plan_of b) ≡ none)
 order_none b e = both_none (first framing b) (first shape (plan_of b)) (sym (order_parts b) ∙ e)
-
--- ---- what an outcome tells
-
-pub outcome_refused : (o : Option ℕ) (n : ℕ) → outcome_of o ≡ Refused n → o ≡ some n
-outcome_refused none n e = cc
-outcome_refused (some m) n e = cc
-
-pub outcome_accepted : (o : Option ℕ) → outcome_of o ≡ Accepted → o ≡ none
-outcome_accepted none e = refl
-outcome_accepted (some m) e = cc

@@ -4,4 +4,3 @@ pub mod Nodes
 pub mod Refusals
 pub mod Bounds
 pub mod Legal
-pub mod Outcomes

@@ -1,20 +1,14 @@
 // Refusals 1 to 9 and 21 of a plan, and those of them that need no node's job: the frame of the bytes, and the sizes of the jobs.
 #![tactic(auto)]
 
-ghost use Rattle.std.specs.Prelude.{◌≡◌, ◌<◌, ◌≤◌};
+ghost use Rattle.std.specs.Prelude.{◌≡◌, ◌≤◌};
 ghost use Rattle.sections.specs.Tables.{jobs_in};
 ghost use Rattle.plan.specs.Checks.{first};
 ghost use Rattle.plan.specs.Refusals.{outside, counts_outside, sizes_wrong, framing};
-ghost use Rattle.plan.specs.Outcomes.{outcome_of};
+ghost use Rattle.refusals.specs.Numbers.{refusal_of};
 
+use refusals::Refusal;
 use sections::{Head, Jobs};
-
-// What checks answer: no refusal, or the number of the first that applies.
-#[derive(Clone, Copy)]
-pub enum Outcome {
-    Accepted,
-    Refused(u32),
-}
 
 fn is_outside(low: usize, high: usize, n: usize) -> bool
     ensures { result ≡ outside low high n }
@@ -37,32 +31,25 @@ fn counts_outside(h: Head) -> bool
 }
 
 // Refusals 1 to 4.
-pub fn framed(plan: &[u8]) -> Outcome
-    ensures { result ≡ outcome_of (first framing plan.now) }
+pub fn framed(plan: &[u8]) -> Result<(), Refusal>
+    ensures { refusal_of result ≡ first framing plan.now }
 {
     if plan.len() < 11 {
-        return Outcome::Refused(1);
+        return Err(Refusal::TooShort);
     }
     let h = sections::read_head(plan);
     if counts_outside(h) {
-        return Outcome::Refused(2);
+        return Err(Refusal::CountOutside);
     }
     let end = sections::end_of(h);
     let bytes = (end + 7) / 8;
     if plan.len() < bytes {
-        return Outcome::Refused(3);
+        return Err(Refusal::CutShort);
     }
     if fields::field(plan, end, 8 * bytes - end) != 0 {
-        return Outcome::Refused(4);
+        return Err(Refusal::Filled);
     }
-    Outcome::Accepted
-}
-
-// A size as a number to reckon with: the contract has the range.
-pub fn wide(size: u16) -> usize
-    ensures { (result ≡ size) × (result < 65536) }
-{
-    size as usize
+    Ok(())
 }
 
 // Refusal 5.
@@ -70,15 +57,12 @@ pub fn sizes_wrong(nodes: usize, jobs: Jobs) -> bool
     requires { jobs.count ≤ 16 }
     ensures { result ≡ sizes_wrong nodes (jobs_in jobs) }
 {
-    let count = jobs.count;
     let mut empty = false;
     let mut sum: usize = 0;
-    let mut i: usize = 0;
-    while i < count {
-        let size = wide(jobs.size[i]);
-        empty = empty | (size == 0);
+    for i in 0..jobs.count {
+        let size = usize::from(jobs.size[i]);
+        empty |= size == 0;
         sum += size;
-        i += 1;
     }
     empty | (sum != nodes)
 }

@@ -2,17 +2,17 @@
 use mathlib.Core.Path.{◌≡◌, refl, sym, ap, ap₂, ◌∙◌}
 use mathlib.Core.Bool.{false}
 use mathlib.Core.List.{List, [], ◌∷◌}
-use mathlib.Core.Logic.{◌≢◌}
-use Prim.Native.Nat.{ℕ, zero, suc, ◌+◌, ◌-◌, ◌^◌, ◌≤◌, ◌<◌}
+use Prim.Native.Nat.{ℕ, suc, ◌+◌, ◌-◌, ◌^◌, ◌≤◌, ◌<◌}
 use native.Mathlib.Omega.{arith}
 use lib.ListN.{length, get_or, set, length-set}
 use Rattle.rows.specs.Rows.{row, place}
 use Rattle.expressions.specs.Expression.{Expression}
-use Rattle.expressions.specs.Items.{Item, empty, events, sequence, choice, repeat, arity, push}
+use Rattle.expressions.specs.declared.Item.{Item}
+use Rattle.expressions.specs.declared.Item.TheVariants.{Empty as empty, Events as events, Sequence as sequence, Choice as choice, Repeat as repeat}
+use Rattle.expressions.specs.Items.{arity, push}
 use Rattle.expressions.specs.Positions.{size}
 use Rattle.expressions.specs.Stack.{free, Operand as Masks, masks, operand_at, follows, holdings, both_of, either_of, many_of}
 use Rattle.expressions.proofs.Stack as stack
-use Rattle.item.specs.Faults.{item_of}
 use Rattle.positions.specs.declared.Operand.{Operand}
 use Rattle.positions.specs.declared.Made.{Made}
 use Rattle.positions.specs.Making.{nothing, operand_of, made, gains}
@@ -163,12 +163,3 @@ size_few (events m) at older newer = omega arith
 size_few sequence at older newer = omega arith
 size_few choice at older newer = omega arith
 size_few repeat at older newer = omega arith
-
--- ---- the last kind
-
-pub item_repeat : (k m : ℕ) → k ≢ 0 → k ≢ 1 → k ≢ 2 → k ≢ 3 → item_of k m ≡ repeat
-item_repeat zero m a b c d = absurd (a refl)
-item_repeat (suc zero) m a b c d = absurd (b refl)
-item_repeat (suc (suc zero)) m a b c d = absurd (c refl)
-item_repeat (suc (suc (suc zero))) m a b c d = absurd (d refl)
-item_repeat (suc (suc (suc (suc k)))) m a b c d = refl

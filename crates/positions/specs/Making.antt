@@ -2,7 +2,8 @@
 use Rattle.std.specs.Prelude.{false, true, cond, ℕ}
 use Rattle.std.specs.Int.Bits.{bit_or}
 use Rattle.masks.specs.Mask.{has}
-use Rattle.expressions.specs.Items.{Item, empty, events, sequence, choice, repeat}
+use Rattle.expressions.specs.declared.Item.{Item}
+use Rattle.expressions.specs.declared.Item.TheVariants.{Empty as empty, Events as events, Sequence as sequence, Choice as choice, Repeat as repeat}
 use Rattle.expressions.specs.Stack.{Operand as Masks, both_of, either_of, many_of}
 use Rattle.positions.specs.declared.Operand.{Operand}
 use Rattle.positions.specs.declared.Made.{Made}

@@ -1,14 +1,16 @@
 // The positions of a pattern, built item by item: what may follow each, and which hold each event.
 #![tactic(auto)]
 
-ghost use Rattle.std.specs.Prelude.{◌≡◌, cond, ℕ, length};
+ghost use Rattle.std.specs.Prelude.{◌≡◌, cond, length};
 ghost use Rattle.rows.specs.Rows.{row, place};
-ghost use Rattle.expressions.specs.Items.{empty, events, sequence, choice, repeat, pattern_of};
-ghost use Rattle.item.specs.Faults.{item_of};
-ghost use Rattle.items.specs.Tables.{items_on};
+ghost use Rattle.expressions.specs.declared.Item.TheVariants.{Empty as empty, Events as events, Sequence as sequence, Choice as choice, Repeat as repeat};
+ghost use Rattle.expressions.specs.Items.{pattern_of};
 ghost use Rattle.items.specs.Postfix.{Postfix};
-ghost use Rattle.positions.specs.Tables.{lent_items, position_table};
+ghost use Rattle.positions.specs.Tables.{position_table};
 ghost use Rattle.positions.specs.Making.{nothing, made, gains};
+
+use expressions::Item;
+use items::Items;
 
 // The positions of a pattern: 0 is the beginning.
 #[derive(Drop)]
@@ -24,7 +26,7 @@ pub struct Positions {
 }
 
 // What an item needs to know of an operand: whether it holds the empty string, and what may begin and end its strings.
-#[derive(Clone, Copy)]
+#[derive(Clone, Copy, Default)]
 struct Operand {
     null: bool,
     first: u64,
@@ -59,11 +61,8 @@ fn gain(sets: &mut [u64; 33], m: u64, x: u64)
     requires { length sets.old ≡ 33 }
     ensures { sets.new ≡ row 33 (gains (place sets.old) m x) }
 {
-    let mut left = m & 0x1ffffffff;
-    while left != 0 {
-        let p = u64::trailing_zeros(left);
-        sets[p as usize] = sets[p as usize] | x;
-        left = left ^ (1u64 << p);
+    for p in masks::members_of(m & 0x1ffffffff) {
+        sets[p] |= x;
     }
 }
 
@@ -92,7 +91,7 @@ fn take_events(set: u32, at: u64) -> Made
         last: at,
         ends: 0,
         begins: 0,
-        events: set as u64,
+        events: u64::from(set),
         size: 1,
     }
 }
@@ -144,43 +143,35 @@ fn take_repeat(one: Operand) -> Made
     }
 }
 
-// An item, by its kind. A new position is `at`; of one operand it is the older that is read, of none neither.
-fn take_item(kind: u8, set: u32, at: u64, older: Operand, newer: Operand) -> Made
-    ensures { result ≡ made (item_of kind set) at older newer }
+// What an item makes. A new position is `at`; of one operand it is the older that is read, of none neither.
+fn take_item(item: Item, at: u64, older: Operand, newer: Operand) -> Made
+    ensures { result ≡ made item at older newer }
 {
-    match kind {
-        0 => take_empty(),
-        1 => take_events(set, at),
-        2 => take_sequence(older, newer),
-        3 => take_choice(older, newer),
-        _ => take_repeat(older),
+    match item {
+        Item::Empty => take_empty(),
+        Item::Events(set) => take_events(set, at),
+        Item::Sequence => take_sequence(older, newer),
+        Item::Choice => take_choice(older, newer),
+        Item::Repeat => take_repeat(older),
     }
 }
 
 // The positions of the pattern that the items build. The operands stand in an array, the newest at the place `depth - 1`; an
-// item's own takes the place of the oldest that it takes. They are never more than 32, since the items that are left make one of them. At last
-// what begins the one operand left follows the beginning.
-pub fn positions_of<'a>(total: usize, kinds: &'a [u8; 64], sets: &'a [u32; 64]) -> Positions
-    requires { Postfix (lent_items total kinds.now sets.now) }
-    ensures { result ≡ position_table (pattern_of (items_on (lent_items total kinds.now sets.now))) }
+// item's own takes the place of the oldest that it takes. They are never more than 32, since the items that are left make one of them. It is no
+// list that grows, since an item that takes no operand reads places past the newest. At last what begins the one operand left follows the beginning.
+pub fn positions_of(items: &Items) -> Positions
+    requires { Postfix items.now.items }
+    ensures { result ≡ position_table (pattern_of items.now.items) }
 {
-    let mut operands = [Operand {
-        null: false,
-        first: 0,
-        last: 0,
-    }; 34];
+    let mut operands = [Operand::default(); 34];
     let mut depth: usize = 0;
     let mut count: usize = 1;
     let mut after = [0u64; 33];
     let mut holding = [0u64; 33];
-    let mut i: usize = 0;
-    while i < total {
-        let kind = kinds[i];
-        let base = depth - item::arity_of(kind);
+    for item in items.iter() {
+        let base = depth - item.arity();
         let at = masks::with_state(0, count as u32);
-        let older = operands[base];
-        let newer = operands[base + 1];
-        let made = take_item(kind, sets[i], at, older, newer);
+        let made = take_item(*item, at, operands[base], operands[base + 1]);
         operands[base] = Operand {
             null: made.null,
             first: made.first,
@@ -190,14 +181,13 @@ pub fn positions_of<'a>(total: usize, kinds: &'a [u8; 64], sets: &'a [u32; 64]) 
         count += made.size;
         gain(&mut after, made.ends, made.begins);
         gain(&mut holding, made.events, at);
-        i += 1;
     }
     let whole = operands[0];
     after[0] = whole.first;
     Positions {
-        count: count,
-        after: after,
-        holding: holding,
+        count,
+        after,
+        holding,
         last: whole.last | only(whole.null, 1),
     }
 }

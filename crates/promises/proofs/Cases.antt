@@ -6,6 +6,7 @@ use mathlib.Core.Option.{Option, some}
 use Prim.Native.Nat.{ℕ, ◌+◌, ◌^◌}
 use lib.Count.{ones}
 use lib.ListN.{length, take, set}
+use Rattle.std.specs.Prelude.{Ok, Err}
 use Rattle.masks.specs.Mask.{digit, gather_below, pairs_of}
 use Rattle.fields.specs.Bits.{bits_of, value_from, field_at, events_from, events_at}
 use Rattle.rows.specs.Rows.{row, padded}
@@ -23,9 +24,11 @@ use Rattle.items.proofs.Cases.{kind, one, sequence, choice}
 use Rattle.automaton.specs.Automaton.{watched_below, states_of, table_of, accepting_below}
 use Rattle.pattern.proofs.Cases.{two_jobs, distance}
 use Rattle.graph.specs.Edges.{each, meetings_of, edges_of}
+use Rattle.refusals.specs.declared.Refusal.{Refusal}
+use Rattle.refusals.specs.declared.Refusal.TheVariants.{TooShort, CountOutside, CutShort, Filled, WrongSizes, StrayEnd, SplitEnds, ExitLeft, ItemsCut, Trailing, ManyStates, ShortRow, NoneEnds}
 use Rattle.verdict.specs.declared.Counts.{Counts}
-use Rattle.verdict.specs.declared.Answer.{Answer}
-use Rattle.verdict.specs.declared.Answer.TheVariants.{Refused, Verified, Inconclusive}
+use Rattle.verdict.specs.declared.Verdict.TheVariants.{Verified, Inconclusive}
+use Rattle.verdict.specs.Answer.{Answer}
 use Rattle.verdict.specs.Verdict.{final_below, rounded}
 use Rattle.promises.specs.Order.{own}
 use Rattle.promises.specs.Judged.{Judged}
@@ -75,8 +78,8 @@ pub record Case : Type 0 where
   pub answer : Answer
   pub after : List ℕ
 
-abbrev refused : (bytes before : List ℕ) → ℕ → Case
-refused bytes before n = record { bytes = bytes; before = before; answer = Refused n; after = before }
+abbrev refused : (bytes before : List ℕ) → Refusal → Case
+refused bytes before x = record { bytes = bytes; before = before; answer = Err x; after = before }
 
 abbrev counts : (states meetings ordering pairs fill ends : ℕ) → Counts
 counts states meetings ordering pairs fill ends = record {
@@ -89,10 +92,10 @@ counts states meetings ordering pairs fill ends = record {
 }
 
 abbrev verified : (bytes before : List ℕ) → Counts → (after : List ℕ) → Case
-verified bytes before c after = record { bytes = bytes; before = before; answer = Verified c; after = after }
+verified bytes before c after = record { bytes = bytes; before = before; answer = Ok (Verified c); after = after }
 
 abbrev inconclusive : (bytes before : List ℕ) → Counts → (after : List ℕ) → Case
-inconclusive bytes before c after = record { bytes = bytes; before = before; answer = Inconclusive c; after = after }
+inconclusive bytes before c after = record { bytes = bytes; before = before; answer = Ok (Inconclusive c); after = after }
 
 -- plans that are judged
 abbrev judged : List Case
@@ -121,18 +124,18 @@ judged =
 -- plans that are turned down
 abbrev turned_down : List Case
 turned_down =
-    refused (take 10 P) (7 ∷ 8 ∷ []) 1  -- P with 10 bytes
-    ∷ refused (set P 0 0x88) (7 ∷ 8 ∷ []) 2  -- with 17 jobs
-    ∷ refused (take 16 P) (7 ∷ 8 ∷ []) 3  -- with 16 bytes
-    ∷ refused (set P 16 0x11) (7 ∷ 8 ∷ []) 4  -- its byte 10 made 11
-    ∷ refused (set P 11 0x04) (7 ∷ 8 ∷ []) 5  -- job size 1
-    ∷ refused (set (set P 14 0x02) 15 0x00) (7 ∷ 8 ∷ []) 8  -- the step from 1 to 0
-    ∷ refused (take 21 P) (7 ∷ 8 ∷ []) 10  -- its last byte dropped
-    ∷ refused (set P 21 0x01) (7 ∷ 8 ∷ []) 15  -- its last byte 01
-    ∷ refused (distance 14 5) (7 ∷ 8 ∷ 9 ∷ []) 16  -- five times: 65 states
-    ∷ refused P (7 ∷ []) 17  -- a row of one place
-    ∷ refused (take 21 P) (7 ∷ []) 10  -- 10 and 17
-    ∷ refused (distance 14 5) (7 ∷ []) 16  -- 16 and 17
+    refused (take 10 P) (7 ∷ 8 ∷ []) TooShort  -- P with 10 bytes
+    ∷ refused (set P 0 0x88) (7 ∷ 8 ∷ []) CountOutside  -- with 17 jobs
+    ∷ refused (take 16 P) (7 ∷ 8 ∷ []) CutShort  -- with 16 bytes
+    ∷ refused (set P 16 0x11) (7 ∷ 8 ∷ []) Filled  -- its byte 10 made 11
+    ∷ refused (set P 11 0x04) (7 ∷ 8 ∷ []) WrongSizes  -- job size 1
+    ∷ refused (set (set P 14 0x02) 15 0x00) (7 ∷ 8 ∷ []) ExitLeft  -- the step from 1 to 0
+    ∷ refused (take 21 P) (7 ∷ 8 ∷ []) ItemsCut  -- its last byte dropped
+    ∷ refused (set P 21 0x01) (7 ∷ 8 ∷ []) Trailing  -- its last byte 01
+    ∷ refused (distance 14 5) (7 ∷ 8 ∷ 9 ∷ []) ManyStates  -- five times: 65 states
+    ∷ refused P (7 ∷ []) ShortRow  -- a row of one place
+    ∷ refused (take 21 P) (7 ∷ []) ItemsCut  -- 10 and 17
+    ∷ refused (distance 14 5) (7 ∷ []) ManyStates  -- 16 and 17
     ∷ []
 
 -- plans that an analyst gets wrong by an error
@@ -180,16 +183,16 @@ recess =
     ∷ verified (of_none 0 [] [] [] [] []) (7 ∷ 8 ∷ []) (counts 3 0 0 0 0 1) (7 ∷ 8 ∷ [])
     ∷ verified (quiet 0 [] [] [] [] []) [] (counts 1 0 0 0 0 1) []  -- a row of no places
     ∷ verified (quiet 0 [] [] (channel 1 ∷ channel 0 ∷ []) [] []) [] (counts 1 0 0 0 0 1) []  -- with channels
-    ∷ refused (quiet 1 [] [] [] [] []) (7 ∷ 8 ∷ []) 5  -- jobs 0 with nodes 1
-    ∷ refused (quiet 0 (job 0 0 0 ∷ []) [] [] [] []) (7 ∷ 8 ∷ []) 5  -- jobs 1 with nodes 0, of size 0 and of size 1
-    ∷ refused (quiet 0 (job 1 0 0 ∷ []) [] [] [] []) (7 ∷ 8 ∷ []) 5
-    ∷ refused (quiet 0 [] (step 0 0 0 ∷ []) [] [] []) (7 ∷ 8 ∷ []) 7  -- jobs 0 with a step, with a call, with an accept on no channel
-    ∷ refused (quiet 0 [] [] (channel 0 ∷ []) (link 0 0 0 ∷ []) []) (7 ∷ 8 ∷ []) 7
-    ∷ refused (quiet 0 [] [] [] [] (link 0 0 0 ∷ [])) (7 ∷ 8 ∷ []) 7
-    ∷ refused (set (quiet 0 [] [] [] [] []) 10 0x01) (7 ∷ 8 ∷ []) 4  -- jobs 0 with a filling bit
-    ∷ refused (set (quiet 1 [] [] [] [] []) 10 0x01) (7 ∷ 8 ∷ []) 4  -- 4 and 5
-    ∷ refused (take 10 (quiet 0 [] [] [] [] [])) [] 1  -- with 10 bytes, and with 11, without an item
-    ∷ refused (take 11 (quiet 0 [] [] [] [] [])) [] 10
+    ∷ refused (quiet 1 [] [] [] [] []) (7 ∷ 8 ∷ []) WrongSizes  -- jobs 0 with nodes 1
+    ∷ refused (quiet 0 (job 0 0 0 ∷ []) [] [] [] []) (7 ∷ 8 ∷ []) WrongSizes  -- jobs 1 with nodes 0, of size 0 and of size 1
+    ∷ refused (quiet 0 (job 1 0 0 ∷ []) [] [] [] []) (7 ∷ 8 ∷ []) WrongSizes
+    ∷ refused (quiet 0 [] (step 0 0 0 ∷ []) [] [] []) (7 ∷ 8 ∷ []) SplitEnds  -- jobs 0 with a step, with a call, with an accept on no channel
+    ∷ refused (quiet 0 [] [] (channel 0 ∷ []) (link 0 0 0 ∷ []) []) (7 ∷ 8 ∷ []) SplitEnds
+    ∷ refused (quiet 0 [] [] [] [] (link 0 0 0 ∷ [])) (7 ∷ 8 ∷ []) SplitEnds
+    ∷ refused (set (quiet 0 [] [] [] [] []) 10 0x01) (7 ∷ 8 ∷ []) Filled  -- jobs 0 with a filling bit
+    ∷ refused (set (quiet 1 [] [] [] [] []) 10 0x01) (7 ∷ 8 ∷ []) Filled  -- 4 and 5
+    ∷ refused (take 10 (quiet 0 [] [] [] [] [])) [] TooShort  -- with 10 bytes, and with 11, without an item
+    ∷ refused (take 11 (quiet 0 [] [] [] [] [])) [] ItemsCut
     ∷ []
 
 -- two jobs side by side, which stand or do not: the first goes 0 to 1 by event 1, the second 2 to 3 by a quiet step
@@ -209,13 +212,13 @@ standing =
     -- the other one stands, and its steps leave its entry
     ∷ verified (beside (job 2 0 1 ∷ service 2 2 2 ∷ [])) (1 ∷ 2 ∷ 3 ∷ 4 ∷ 5 ∷ []) (counts 3 0 2 6 50 2) (1 ∷ 2 ∷ 3 ∷ 3 ∷ 5 ∷ [])
     ∷ inconclusive (beside_none (job 2 0 1 ∷ service 2 2 2 ∷ [])) (1 ∷ 2 ∷ 3 ∷ 4 ∷ 5 ∷ []) (counts 3 0 2 6 50 2) (1 ∷ 2 ∷ 3 ∷ 3 ∷ 5 ∷ [])
-    ∷ refused (beside (service 2 0 1 ∷ job 2 2 3 ∷ [])) (7 ∷ 8 ∷ []) 6  -- an exit field that differs
-    ∷ refused (set P 13 0x06) (7 ∷ 8 ∷ []) 6  -- P whose job stands, with the exit 1, and with its entry for exit
-    ∷ refused (set P 13 0x02) (7 ∷ 8 ∷ []) 21
-    ∷ refused (beside (service 2 0 0 ∷ service 2 2 2 ∷ [])) (7 ∷ 8 ∷ []) 21  -- both stand
-    ∷ refused (of_every 4 (service 2 0 0 ∷ service 2 2 2 ∷ []) (step 0 3 1 ∷ []) [] [] []) (7 ∷ 8 ∷ []) 21  -- 21 and 7
-    ∷ refused (beside (service 2 0 0 ∷ service 2 2 3 ∷ [])) (7 ∷ 8 ∷ []) 6  -- 6 and 21
-    ∷ refused (beside (service 2 0 0 ∷ job 2 2 2 ∷ [])) (7 ∷ 8 ∷ []) 8  -- a step that leaves the exit of the other job
+    ∷ refused (beside (service 2 0 1 ∷ job 2 2 3 ∷ [])) (7 ∷ 8 ∷ []) StrayEnd  -- an exit field that differs
+    ∷ refused (set P 13 0x06) (7 ∷ 8 ∷ []) StrayEnd  -- P whose job stands, with the exit 1, and with its entry for exit
+    ∷ refused (set P 13 0x02) (7 ∷ 8 ∷ []) NoneEnds
+    ∷ refused (beside (service 2 0 0 ∷ service 2 2 2 ∷ [])) (7 ∷ 8 ∷ []) NoneEnds  -- both stand
+    ∷ refused (of_every 4 (service 2 0 0 ∷ service 2 2 2 ∷ []) (step 0 3 1 ∷ []) [] [] []) (7 ∷ 8 ∷ []) NoneEnds  -- 21 and 7
+    ∷ refused (beside (service 2 0 0 ∷ service 2 2 3 ∷ [])) (7 ∷ 8 ∷ []) StrayEnd  -- 6 and 21
+    ∷ refused (beside (service 2 0 0 ∷ job 2 2 2 ∷ [])) (7 ∷ 8 ∷ []) ExitLeft  -- a step that leaves the exit of the other job
     ∷ []
 
 -- the table

@@ -1,12 +1,14 @@
 -- A simple executable reading of the judge's promise, and that what it answers is what the promise asks for. Assumes nothing.
-use mathlib.Core.Path.{◌≡◌, refl, sym, subst, ◌∙◌}
+use mathlib.Core.Path.{◌≡◌, refl, sym, ap, subst, ◌∙◌}
 use mathlib.Core.Bool.{Bool, true, false, ◌&&◌, cond, and-eq-true_iff}
 use mathlib.Core.List.{List}
-use mathlib.Core.Option.{Option, none, some, some-injective, none-ne-some, some-ne-none}
+use mathlib.Core.Option
+use mathlib.Core.Option.{Option, none, some, some-injective, none-ne-some, some-ne-none, map-eq-some_iff}
 use Prim.Native.Nat.{ℕ, ◌≤◌}
 use borrow.Author.Tests.{leb-true, ltb-false}
 use lib.Dec.{leb}
 use lib.ListN.{length}
+use Rattle.std.specs.Prelude.{Err}
 use Rattle.rows.specs.Rows.{padded}
 use Rattle.sections.specs.Plan.{Plan}
 use Rattle.sections.specs.Layout.{plan_of}
@@ -20,14 +22,14 @@ use Rattle.pattern.specs.Refusals.{readable, over_limit}
 use Rattle.pattern.proofs.Part.{before_items}
 use Rattle.graph.specs.Flow.{edge_rule}
 use Rattle.family.proofs.Evaluate.{rounds, closed, evaluated}
-use Rattle.verdict.specs.declared.Answer.{Answer}
-use Rattle.verdict.specs.declared.Answer.TheVariants.{Refused}
+use Rattle.refusals.specs.declared.Refusal.{Refusal}
 use Rattle.verdict.specs.Verdict.{verified}
-use Rattle.verdict.specs.Answer.{verdict}
+use Rattle.verdict.specs.Answer.{Answer, verdict}
 use Rattle.verdict.specs.Row.{written}
 use Rattle.promises.specs.Order.{Pattern, expression_by, text_refusal, many_states, short_row, judgeable, late_refusal}
 use Rattle.promises.specs.Property.{listed, numbered, states, table, accepting}
 use Rattle.promises.specs.Judged.{final_set, counts_of, Answered, Judged}
+use Rattle.promises.proofs.Named.{named, number_named}
 use Rattle.promises.proofs.Refusals.{in_order, turned_down}
 use Rattle.promises.proofs.Row.{answered}
 
@@ -48,7 +50,7 @@ by_rounds k p r before =
     cond (closed p (table p r) edge_rule (states p r) sets && leb (length sets) 256) (some (verdict_on p r (padded 256 sets) before)) none
 
 abbrev outcome : (refused : Option ℕ) → (k : ℕ) → Plan → Expression → (before : List ℕ) → Option Outcome
-outcome (some n) k p r before = some (Refused n, before)
+outcome (some n) k p r before = Option.map (λ (r : Refusal). (Err r, before)) (named n)
 outcome none k p r before = by_rounds k p r before
 
 abbrev pub evaluate : Pattern → (k : ℕ) → (b before : List ℕ) → Option Outcome
@@ -97,8 +99,9 @@ module _ (q : Pattern) (k : ℕ) (b before : List ℕ) where
   meets : (o : Option ℕ) → first (judgeable q (length before)) b ≡ o → (x : Outcome) → outcome o k (plan_of b) (expression_by q b) before ≡ some x
       → Answered o (plan_of b) (expression_by q b) before x.0 x.1
   meets (some n) h x e =
-      subst (λ (y : Outcome). Answered (some n) (plan_of b) (expression_by q b) before y.0 y.1) (some-injective (Refused n, before) x e)
-      (turned_down (some n) (plan_of b) (expression_by q b) before before n refl refl)
+      let made = (map-eq-some_iff (λ (r : Refusal). (Err r, before)) (named n)).0 e in
+      subst (λ (y : Outcome). Answered (some n) (plan_of b) (expression_by q b) before y.0 y.1) made.2
+      (turned_down (some n) (plan_of b) (expression_by q b) before before made.0 (ap some (sym (number_named n made.0 made.1))) refl)
   meets none h x e =
       let p = plan_of b in
       let r = expression_by q b in

@@ -1,4 +1,5 @@
 -- Laws of what the judges promise.
+pub mod Named
 pub mod Refusals
 pub mod Sound
 pub mod Row

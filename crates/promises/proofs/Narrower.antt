@@ -7,6 +7,7 @@ use mathlib.Core.Logic.{◌↔◌}
 use mathlib.Core.Option.{none, some, none-ne-some}
 use Prim.Native.Nat.{ℕ, ◌<◌}
 use lib.ListN.{length}
+use Rattle.std.specs.Prelude.{Ok, Err}
 use Rattle.masks.specs.Mask.{In, Sub}
 use Rattle.rows.specs.Rows.{place}
 use Rattle.sections.specs.Plan.{Plan}
@@ -17,11 +18,10 @@ use Rattle.expressions.specs.Expression.{Expression}
 use Rattle.graph.specs.Flow.{Flow}
 use Rattle.graph.proofs.Fewer.{flow_narrower}
 use Rattle.growth.specs.Table.{by_table}
+use Rattle.refusals.specs.Numbers.{refusal_of}
 use Rattle.verdict.specs.declared.Counts.{Counts}
-use Rattle.verdict.specs.declared.Answer.{Answer}
-use Rattle.verdict.specs.declared.Answer.TheVariants.{Refused, Verified, Inconclusive}
 use Rattle.verdict.specs.Verdict as verdicts
-use Rattle.verdict.specs.Answer.{refusal_of, verdict_of}
+use Rattle.verdict.specs.Answer.{Answer, verdict_of}
 use Rattle.verdict.proofs.Final.{final_fewer}
 use Rattle.verdict.proofs.Verified.{verified_fewer}
 use Rattle.promises.specs.Order.{Pattern, expression_by}
@@ -44,9 +44,8 @@ module _ (p : Plan) (r : Expression) (wide : List ℕ) where
 
 -- a verdict is no refusal
 pub no_refusal : (a : Answer) (x : Bool × Counts) → verdict_of a ≡ some x → refusal_of a ≡ none
-no_refusal (Refused n) x e = absurd (none-ne-some x e)
-no_refusal (Verified c) x e = refl
-no_refusal (Inconclusive c) x e = refl
+no_refusal (Err r) x e = absurd (none-ne-some x e)
+no_refusal (Ok v) x e = refl
 
 -- whatever the judge answers to a plan and a pattern: a verdict is "verified" if the sets of document 01's rule would make it so
 pub verified_narrower : (q : Pattern) (b before : List ℕ) (a : Answer) (after : List ℕ) → Judged q b before a after

@@ -31,9 +31,8 @@ use Rattle.growth.specs.Table.{by_table}
 use Rattle.family.specs.Family.{Sets}
 use Rattle.family.proofs.Bounds.{states_below}
 use Rattle.verdict.specs.declared.Counts.{Counts}
-use Rattle.verdict.specs.declared.Answer.{Answer}
 use Rattle.verdict.specs.Verdict.{together, final_of, Verified, fill_of}
-use Rattle.verdict.specs.Answer.{verdict_of}
+use Rattle.verdict.specs.Answer.{Answer, verdict_of}
 use Rattle.verdict.proofs.Rounded.{fill_no_nodes}
 use Rattle.verdict.proofs.Final.{AtExits, held_together, held_by_none, in_final, final_no_jobs}
 use Rattle.promises.specs.Order.{Pattern, expression_by, short_row}

@@ -7,6 +7,7 @@ use Prim.Native.Nat.{ℕ, ◌<◌, ◌≤◌}
 use borrow.Author.Tests.{lt-ltb, le-ltb}
 use lib.Dec.{ltb}
 use lib.ListN.{length}
+use Rattle.std.specs.Prelude.{Err}
 use Rattle.sections.specs.Layout.{plan_of}
 use Rattle.sections.specs.Plan.{Plan}
 use Rattle.plan.specs.Checks.{refuse, first, or_else}
@@ -14,8 +15,9 @@ use Rattle.plan.proofs.Tests.{first_append, first_last}
 use Rattle.expressions.specs.Expression.{Expression}
 use Rattle.automaton.specs.Automaton.{states_of}
 use Rattle.pattern.specs.Refusals.{readable, over_limit}
-use Rattle.verdict.specs.declared.Answer.{Answer}
-use Rattle.verdict.specs.declared.Answer.TheVariants.{Refused}
+use Rattle.refusals.specs.declared.Refusal.{Refusal}
+use Rattle.refusals.specs.Numbers.{number}
+use Rattle.verdict.specs.Answer.{Answer}
 use Rattle.promises.specs.Order.{Pattern, expression_by, text_refusal, many_states, short_row, judgeable, late_refusal}
 use Rattle.promises.specs.Judged.{Answered, Judged}
 
@@ -60,13 +62,14 @@ module _ (p : Plan) (r : Expression) (places : ℕ) where
 
 -- ---- a refusal, and the row as it was
 
-pub turned_down : (refused : Option ℕ) (p : Plan) (r : Expression) (before after : List ℕ) (n : ℕ) → refused ≡ some n → after ≡ before
-    → Answered refused p r before (Refused n) after
-turned_down refused p r before after n e same = record { refusal = sym e; unchanged = λ m h. same; judged = λ v c h. absurd (none-ne-some _ h) }
+pub turned_down : (refused : Option ℕ) (p : Plan) (r : Expression) (before after : List ℕ) (x : Refusal) → refused ≡ some (number x)
+    → after ≡ before → Answered refused p r before (Err x) after
+turned_down refused p r before after x e same = record { refusal = sym e; unchanged = λ m h. same; judged = λ v c h. absurd (none-ne-some _ h) }
 
 -- one of 1 to 15
-pub judged_early : (q : Pattern) (b before : List ℕ) (n : ℕ) → first readable b ≡ some n → Judged q b before (Refused n) before
-judged_early q b before n e = turned_down _ (plan_of b) (expression_by q b) before before n (refused_early q (length before) b n e) refl
+pub judged_early : (q : Pattern) (b before : List ℕ) (x : Refusal) → first readable b ≡ some (number x) → Judged q b before (Err x) before
+judged_early q b before x e =
+    turned_down _ (plan_of b) (expression_by q b) before before x (refused_early q (length before) b (number x) e) refl
 
 -- ---- what is left of the answer, where none of 1 to 15 applies, and none of 18 to 20
 

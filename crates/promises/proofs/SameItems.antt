@@ -12,7 +12,7 @@ use Rattle.grammar.specs.Grammar.{Tree, choice, Reads}
 use Rattle.grammar.specs.Meaning.{items_of, text_refusals}
 use Rattle.grammar.proofs.Items.{items_build}
 use Rattle.pattern.specs.Refusals.{items_of_plan, readable}
-use Rattle.verdict.specs.declared.Answer.{Answer}
+use Rattle.verdict.specs.Answer.{Answer}
 use Rattle.promises.specs.Order.{Pattern, own, typed, expression_by, text_refusal, judgeable, late_refusal}
 use Rattle.promises.specs.Judged.{Answered, Judged, JudgedText}
 use Rattle.promises.proofs.Refusals.{in_order}

@@ -18,9 +18,8 @@ use Rattle.graph.specs.Moves.{Move}
 use Rattle.graph.specs.Runs.{begin, Run, Complete}
 use Rattle.graph.proofs.Standing.{complete_on}
 use Rattle.verdict.specs.declared.Counts.{Counts}
-use Rattle.verdict.specs.declared.Answer.{Answer}
 use Rattle.verdict.specs.Verdict.{final_of}
-use Rattle.verdict.specs.Answer.{verdict_of}
+use Rattle.verdict.specs.Answer.{Answer, verdict_of}
 use Rattle.verdict.proofs.Final.{AtExits, held_together, in_final, final_all}
 use Rattle.promises.specs.Order.{Pattern, expression_by}
 use Rattle.promises.specs.Property.{string_of}

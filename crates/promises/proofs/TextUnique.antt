@@ -5,7 +5,7 @@ use mathlib.Core.Option.{Option}
 use Prim.Native.Nat.{ℕ}
 use Rattle.grammar.specs.Grammar.{Tree, Reading}
 use Rattle.grammar.proofs.Unique.{one_reading}
-use Rattle.verdict.specs.declared.Answer.{Answer}
+use Rattle.verdict.specs.Answer.{Answer}
 use Rattle.promises.specs.Order.{typed}
 use Rattle.promises.specs.Judged.{Judged, JudgedText}
 use Rattle.promises.proofs.Unique.{Determined, judged_unique}

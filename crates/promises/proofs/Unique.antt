@@ -3,39 +3,41 @@ use mathlib.Core.Path.{◌≡◌, refl, sym, ap, ap₂, subst, ◌∙◌}
 use mathlib.Core.Bool.{Bool, true, false}
 use mathlib.Core.List.{List}
 use mathlib.Core.Logic.{◌↔◌, by_cases}
-use mathlib.Core.Option.{Option, none, some, some-injective, some-ne-none}
+use mathlib.Core.Option.{Option, none, some, some-injective, none-ne-some, some-ne-none}
 use Prim.Native.Nat.{ℕ, ◌+◌, ◌-◌, ◌≤◌, ◌<◌}
 use native.Mathlib.Decide.{dec_lt}
 use native.Mathlib.Omega.{arith}
 use lib.ListN.{length, drop}
 use lib.Seq.{ext_get_or, get_or-drop}
+use Rattle.std.specs.Prelude.{Ok, Err}
 use Rattle.masks.proofs.Sets.{sub_antisymm}
 use Rattle.rows.specs.Rows.{place}
 use Rattle.sections.specs.Plan.{Plan}
 use Rattle.sections.specs.Layout.{plan_of}
 use Rattle.plan.specs.Checks.{first}
 use Rattle.expressions.specs.Expression.{Expression}
+use Rattle.refusals.specs.Numbers.{refusal_of}
 use Rattle.verdict.specs.declared.Counts.{Counts}
-use Rattle.verdict.specs.declared.Answer.{Answer}
-use Rattle.verdict.specs.declared.Answer.TheVariants.{Refused, Verified, Inconclusive}
+use Rattle.verdict.specs.declared.Verdict.TheVariants.{Verified, Inconclusive}
 use Rattle.verdict.specs.Verdict as verdicts
-use Rattle.verdict.specs.Answer.{refusal_of, verdict_of, verdict}
+use Rattle.verdict.specs.Answer.{Answer, verdict_of, verdict}
 use Rattle.promises.specs.Order.{Pattern, expression_by, judgeable}
 use Rattle.promises.specs.Property.{accepting}
 use Rattle.promises.specs.Judged.{Holds, Verdict, final_set, counts_of, Answered, Promise, Judged}
+use Rattle.promises.proofs.Named.{number_injective}
 
 -- ---- answers
 
--- an answer with the number of a refusal is that refusal, and one without is a verdict
-refused_is : (x : Answer) (n : ℕ) → refusal_of x ≡ some n → x ≡ Refused n
-refused_is (Refused m) n e = ap Refused (some-injective m n e)
-refused_is (Verified c) n e = cc
-refused_is (Inconclusive c) n e = cc
+-- answers with the number of one refusal are equal, and one without such a number is a verdict
+refused_alike : (x y : Answer) (n : ℕ) → refusal_of x ≡ some n → refusal_of y ≡ some n → x ≡ y
+refused_alike (Err r) (Err s) n e h = ap Err (number_injective r s (some-injective _ _ (e ∙ sym h)))
+refused_alike (Err r) (Ok v) n e h = absurd (none-ne-some n h)
+refused_alike (Ok v) y n e h = absurd (none-ne-some n e)
 
 verdict_is : (x : Answer) → refusal_of x ≡ none → (a : Bool) × (c : Counts) × (verdict_of x ≡ some (a, c)) × (x ≡ verdict a c)
-verdict_is (Refused n) e = absurd (some-ne-none n e)
-verdict_is (Verified c) e = (true, c, refl, refl)
-verdict_is (Inconclusive c) e = (false, c, refl, refl)
+verdict_is (Err r) e = absurd (some-ne-none _ e)
+verdict_is (Ok (Verified c)) e = (true, c, refl, refl)
+verdict_is (Ok (Inconclusive c)) e = (false, c, refl, refl)
 
 -- flags that say the same are equal
 flags_equal : {A : Type 0} (a b : Bool) → (a ≡ true) ↔ A → (b ≡ true) ↔ A → a ≡ b
@@ -80,7 +82,7 @@ module _ (p : Plan) (r : Expression) (before : List ℕ) where
 pub answered_unique : (refused : Option ℕ) (p : Plan) (r : Expression) (before : List ℕ) (x y : Answer) (u v : List ℕ)
     → Answered refused p r before x u → Answered refused p r before y v → (x ≡ y) × (u ≡ v)
 answered_unique (some n) p r before x y u v a b =
-    (refused_is x n a.refusal ∙ sym (refused_is y n b.refusal), a.unchanged n refl ∙ sym (b.unchanged n refl))
+    (refused_alike x y n a.refusal b.refusal, a.unchanged n refl ∙ sym (b.unchanged n refl))
 answered_unique none p r before x y u v a b =
     let s = verdict_is x a.refusal in
     let t = verdict_is y b.refusal in

@@ -1,23 +1,25 @@
 -- Nothing is lost: what the arrays hold tells the plan and its items. Assumes nothing.
-use mathlib.Core.Path.{◌≡◌, refl, ap, ◌∙◌}
+use mathlib.Core.Path.{◌≡◌, refl, ap, ap₂, ◌∙◌}
 use mathlib.Core.List.Memᴰ
 use mathlib.Core.List.{List, Memᴰ}
 use Prim.Native.Nat.{ℕ, ◌+◌, ◌<◌, ◌≤◌}
 use native.Mathlib.Omega.{arith}
-use lib.ListN.{length}
+use lib.ListN.{length, get_or}
 use Rattle.rows.specs.Rows.{row, place}
-use Rattle.rows.proofs.Rows.{row_at, row_ext, row_places}
+use Rattle.rows.proofs.Rows.{column_at, row_at, row_ext, row_places}
 use Rattle.rows.proofs.Members.{at_each}
 use Rattle.sections.specs.declared.Kind.{Kind}
 use Rattle.sections.specs.declared.Kind.TheVariants.{Every, None}
-use Rattle.sections.specs.Plan.{Arc, Plan, arc_at, no_arc, kind_of}
+use Rattle.sections.specs.Plan as plan
+use Rattle.sections.specs.Plan.{Arc, Plan, arc_at, no_arc}
 use Rattle.sections.specs.Tables.{jobs_in, channels_in}
 use Rattle.sections.proofs.Kept.{jobs_kept, channels_kept}
 use Rattle.plan.specs.Legal.{Legal}
 use Rattle.plan.specs.Refusals.{arcs, links}
-use Rattle.expressions.specs.Items.{Item}
-use Rattle.items.specs.Tables as items
-use Rattle.items.proofs.Kept.{items_kept}
+use Rattle.expressions.specs.declared.Item.{Item}
+use Rattle.expressions.specs.declared.Item.TheVariants.{Empty as empty, Events as events, Sequence as sequence, Choice as choice, Repeat as repeat}
+use Rattle.item.specs.Faults.{item_of}
+use Rattle.item.specs.Found.{kind_of, set_of}
 use Rattle.words.specs.Words.{unpacked, arcs_on, arc_on}
 use Rattle.words.proofs.Words.{unpack_word}
 use Rattle.readback.specs.Tables.{kind_number, word, word_at, Tables, tables_of}
@@ -27,7 +29,7 @@ use Rattle.readback.proofs.Arcs.{step_at, call_at, accept_at}
 abbrev pub plan_told : Tables → Plan
 plan_told t = record {
   nodes = place t.counts 1;
-  kind = kind_of (place t.counts 6);
+  kind = plan.kind_of (place t.counts 6);
   items = place t.counts 7;
   alphabet = place t.counts 8;
   jobs = jobs_in (record { size = t.size; entry = t.entry; exit = t.exit; standing = t.standing; count = place t.counts 0 });
@@ -38,9 +40,9 @@ plan_told t = record {
 }
 
 abbrev pub items_told : Tables → (count : ℕ) → List Item
-items_told t count = items.items_on (record { kind = t.kinds; set = t.sets; count = count })
+items_told t count = row count (λ i. item_of (place t.kinds i) (place t.sets i))
 
-kind_back : (k : Kind) → kind_of (kind_number k) ≡ k
+kind_back : (k : Kind) → plan.kind_of (kind_number k) ≡ k
 kind_back Every = refl
 kind_back None = refl
 
@@ -95,5 +97,15 @@ module _ (p : Plan) (legal : Legal p) where
   }
 
 -- and its items
+item_back : (x : Item) → item_of (kind_of x) (set_of x) ≡ x
+item_back empty = refl
+item_back (events m) = refl
+item_back sequence = refl
+item_back choice = refl
+item_back repeat = refl
+
 pub items_told_lem : (p : Plan) (l : List Item) → items_told (tables_of p l) (length l) ≡ l
-items_told_lem p l = items_kept l
+items_told_lem p l =
+    row_ext _ (λ i. get_or l i empty) (length l)
+    (λ i h. ap₂ item_of (column_at 64 kind_of empty refl l i) (column_at 64 set_of empty refl l i) ∙ item_back (get_or l i empty))
+    ∙ row_places empty l

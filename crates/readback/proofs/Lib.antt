@@ -1,5 +1,4 @@
 -- Laws of what is read back.
 pub mod Arcs
 pub mod Told
-pub mod Fits
 pub mod Back

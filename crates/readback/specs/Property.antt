@@ -32,11 +32,11 @@ property_with r alphabet (some es) before = property_of r alphabet es
 abbrev pub property_under : Expression → (alphabet : ℕ) → Property → Property
 property_under r alphabet before = property_with r alphabet (states_of r alphabet) before
 
-abbrev pub limit_of : Option (List ℕ) → ℕ
-limit_of none = 16
-limit_of (some es) = 0
+abbrev pub limit_of : Option (List ℕ) → Option ℕ
+limit_of none = some 16
+limit_of (some es) = none
 
-abbrev pub limit : Expression → (alphabet : ℕ) → ℕ
+abbrev pub limit : Expression → (alphabet : ℕ) → Option ℕ
 limit r alphabet = limit_of (states_of r alphabet)
 
 -- "A refusal returns its number and nothing else"

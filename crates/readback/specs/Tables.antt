@@ -1,6 +1,6 @@
 -- The tables of a plan in lent arrays, as they are read back of its bytes. Document 01, "The bit-packed plan" and "Four questions for each public
 -- operation".
-use Rattle.std.specs.Prelude.{List, [], ◌∷◌, cond, ℕ, ◌+◌, ◌*◌, ◌-◌, ltb}
+use Rattle.std.specs.Prelude.{List, [], ◌∷◌, map, cond, ℕ, ◌+◌, ◌*◌, ◌-◌, ltb}
 use Rattle.std.proofs.Math.Option.{Option, none, some}
 use Rattle.rows.specs.Rows.{row, padded}
 use Rattle.sections.specs.declared.Kind.{Kind}
@@ -10,8 +10,8 @@ use Rattle.sections.specs.Plan.{Arc, Plan, arc_at}
 use Rattle.sections.specs.Layout.{plan_of}
 use Rattle.sections.specs.Tables.{sizes, entries, exits, standings, decoded_of}
 use Rattle.plan.specs.Checks.{first}
-use Rattle.expressions.specs.Items.{Item}
-use Rattle.items.specs.Tables as items
+use Rattle.expressions.specs.declared.Item.{Item}
+use Rattle.item.specs.Found.{kind_of, set_of}
 use Rattle.pattern.specs.Refusals.{items_of_plan, readable}
 
 -- the number that is told of the first refusal that applies, 0 where none does
@@ -35,6 +35,13 @@ word a = a.from + 256 * a.to + 65536 * a.label
 -- the arcs of a plan: its local steps from place 0 on, its calls from 256, its accepts from 384, and 0 everywhere else
 abbrev pub word_at : Plan → ℕ → ℕ
 word_at p k = cond (ltb k 256) (word (arc_at p.steps k)) (cond (ltb k 384) (word (arc_at p.calls (k - 256))) (word (arc_at p.accepts (k - 384))))
+
+-- the kinds of items, and their sets
+abbrev pub kinds_of : List Item → List ℕ
+kinds_of l = map kind_of l
+
+abbrev pub sets_of : List Item → List ℕ
+sets_of l = map set_of l
 
 -- the lent arrays
 pub record Tables : Type 0 where
@@ -74,8 +81,8 @@ tables_of p l = record {
   standing = padded 16 (standings p.jobs);
   event = padded 64 p.channels;
   arcs = row 512 (word_at p);
-  kinds = padded 64 (items.kinds l);
-  sets = padded 64 (items.sets l);
+  kinds = padded 64 (kinds_of l);
+  sets = padded 64 (sets_of l);
 }
 
 -- "A refusal returns its number and nothing else": the arrays are then as they were

@@ -1,35 +1,26 @@
 // What is read back of the bytes of a plan, into lent arrays: its tables, and the automaton of its pattern.
 #![tactic(auto)]
 
-ghost use Rattle.std.specs.Prelude.{◌≡◌, ◌≤◌};
-ghost use Rattle.rows.specs.Rows.{row, place};
+ghost use Rattle.std.specs.Prelude.{◌≡◌, ◌≤◌, length};
+ghost use Rattle.rows.specs.Rows.{row, padded, place};
 ghost use Rattle.expressions.specs.Items.{pattern_of};
-ghost use Rattle.items.specs.Tables.{items_on};
+ghost use Rattle.item.specs.Found.{kind_of, set_of};
 ghost use Rattle.items.specs.Postfix.{Postfix};
 ghost use Rattle.plan.specs.Checks.{first};
+ghost use Rattle.refusals.specs.Numbers.{refusal_of};
 ghost use Rattle.pattern.specs.Refusals.{readable, acceptable};
-ghost use Rattle.readback.specs.Tables.{number_of, kind_number, counts_in, tables, tables_in};
+ghost use Rattle.readback.specs.Tables.{counts_in, kinds_of, sets_of, tables, tables_in};
 ghost use Rattle.readback.specs.Property.{property, property_in, property_under, limit};
 
+use expressions::Item;
 use items::Items;
-use plan::Outcome;
+use refusals::Refusal;
 use sections::{Decoded, Kind};
 
-// The number of a kind.
-fn kind_number(kind: Kind) -> usize
-    ensures { result ≡ kind_number kind }
-{
-    match kind {
-        Kind::Every => 0,
-        Kind::None => 1,
-    }
-}
-
 // The counts of a plan, in the order of its head, and its alphabet.
-fn counts_of(d: Decoded) -> [usize; 9]
-    ensures { result ≡ counts_in d }
+fn counts_of(d: &Decoded) -> [usize; 9]
+    ensures { result ≡ counts_in d.now }
 {
-    let kind = d.kind;
     [
         d.jobs.count,
         d.nodes,
@@ -37,13 +28,46 @@ fn counts_of(d: Decoded) -> [usize; 9]
         d.calls,
         d.accepts,
         d.channels.count,
-        kind_number(kind),
+        usize::from(d.kind == Kind::None),
         d.items,
         d.alphabet as usize,
     ]
 }
 
-// The tables of the plan that the bytes hold, and 0; or the first refusal of 1 to 15 and 21 that applies, with every array as it was.
+// The kinds and the sets of items, in arrays as C has them: 0 where the kind has no set, and behind the last item.
+fn list_items(items: &Items, kinds: &mut [u8; 64], sets: &mut [u32; 64])
+    ensures { (kinds.new ≡ padded 64 (kinds_of items.now.items)) × (sets.new ≡ padded 64 (sets_of items.now.items)) }
+{
+    *kinds = [0; 64];
+    *sets = [0; 64];
+    for (i, item) in items.iter().enumerate() {
+        kinds[i] = kind_of(*item);
+        sets[i] = set_of(*item);
+    }
+}
+
+// The kind of an item, as a number.
+fn kind_of(item: Item) -> u8
+    ensures { result ≡ kind_of item }
+{
+    match item {
+        Item::Empty => 0,
+        Item::Events(_) => 1,
+        Item::Sequence => 2,
+        Item::Choice => 3,
+        Item::Repeat => 4,
+    }
+}
+
+// Its set, empty where its kind has none.
+fn set_of(item: Item) -> u32
+    ensures { result ≡ set_of item }
+{
+    if let Item::Events(set) = item { set } else { 0 }
+}
+
+// The tables of the plan that the bytes hold; or the first refusal of 1 to 15 and 21 that applies, with every array as it was. The arrays are those
+// that C lends.
 pub fn tables_of(
     plan: &[u8],
     counts: &mut [usize; 9],
@@ -55,94 +79,71 @@ pub fn tables_of(
     arcs: &mut [u32; 512],
     kinds: &mut [u8; 64],
     sets: &mut [u32; 64],
-) -> u32
-    ensures { (result ≡ number_of (first readable plan.now)) × (tables counts.new size.new entry.new exit.new standing.new event.new arcs.new kinds.new sets.new ≡ tables_in plan.now (tables counts.old size.old entry.old exit.old standing.old event.old arcs.old kinds.old sets.old)) }
+) -> Result<(), Refusal>
+    ensures { (refusal_of result ≡ first readable plan.now) × (tables counts.new size.new entry.new exit.new standing.new event.new arcs.new kinds.new sets.new ≡ tables_in plan.now (tables counts.old size.old entry.old exit.old standing.old event.old arcs.old kinds.old sets.old)) }
 {
     let mut words = [0u32; 512];
-    let read = pattern::read_pattern(plan, &mut words);
-    let reading = read.reading;
-    let found = reading.outcome;
-    match found {
-        Outcome::Refused(n) => n,
-        Outcome::Accepted => {
-            let d = reading.plan;
-            let sizes = d.jobs.size;
-            let entries = d.jobs.entry;
-            let exits = d.jobs.exit;
-            let standings = d.jobs.standing;
-            let events = d.channels.event;
-            let item_kinds = read.items.kind;
-            let item_sets = read.items.set;
-            *counts = counts_of(d);
-            *size = sizes;
-            *entry = entries;
-            *exit = exits;
-            *standing = standings;
-            *event = events;
-            *arcs = words;
-            *kinds = item_kinds;
-            *sets = item_sets;
-            0
-        }
-    }
+    let read = pattern::read_pattern(plan, &mut words)?;
+    let d = &read.reading.plan;
+    *counts = counts_of(d);
+    *size = d.jobs.size;
+    *entry = d.jobs.entry;
+    *exit = d.jobs.exit;
+    *standing = d.jobs.standing;
+    *event = d.channels.event;
+    *arcs = words;
+    list_items(&read.items, kinds, sets);
+    Ok(())
 }
 
-// The first 64 of 96 sets.
-fn first_states(sets: &[u64; 96]) -> [u64; 64]
+// The states in an array as C has it, with 0 behind the last.
+fn list_states(sets: &[u64]) -> [u64; 64]
+    requires { length sets.now ≤ 64 }
     ensures { result ≡ row 64 (place sets.now) }
 {
     let mut states = [0u64; 64];
-    let mut k: usize = 0;
-    while k < 64 {
-        states[k] = sets[k];
-        k += 1;
-    }
+    states[..sets.len()].copy_from_slice(sets);
     states
 }
 
-// The automaton of a pattern over an alphabet, and 0; or 16 where it has more than 64 states, with every array as it was.
+// The automaton of a pattern over an alphabet; or 16 where it has more than 64 states, with every array as it was.
 fn property_under(
-    items: Items,
+    items: &Items,
     alphabet: u32,
     values: &mut [u64; 2],
     states: &mut [u64; 64],
     moves: &mut [[u8; 32]; 64],
-) -> u32
-    requires { Postfix items }
-    ensures { (result ≡ limit (pattern_of (items_on items)) alphabet) × (property values.new states.new moves.new ≡ property_under (pattern_of (items_on items)) alphabet (property values.old states.old moves.old)) }
+) -> Result<(), Refusal>
+    requires { Postfix items.now.items }
+    ensures { (refusal_of result ≡ limit (pattern_of items.now.items) alphabet) × (property values.new states.new moves.new ≡ property_under (pattern_of items.now.items) alphabet (property values.old states.old moves.old)) }
 {
-    let p = positions::positions_of(items.count, &items.kind, &items.set);
-    let s = automaton::states_of(p.count, &p.after, &p.holding, alphabet);
-    if s.fits {
-        let accepting = automaton::accepting_of(p.last, s.count, &s.sets);
-        *values = [s.count as u64, accepting];
-        *states = first_states(&s.sets);
-        *moves = transitions::moves_of(p.count, &p.after, &p.holding, alphabet, s.count, &s.sets);
-        0
-    } else {
-        16
-    }
+    let positions = positions::positions_of(items);
+    let Some(sets) = automaton::states_of(&positions, alphabet) else {
+        return Err(Refusal::ManyStates);
+    };
+    let accepting = automaton::accepting_of(positions.last, &sets);
+    *values = [sets.len() as u64, accepting];
+    *states = list_states(&sets);
+    *moves = transitions::moves_of(&positions, alphabet, &sets);
+    Ok(())
 }
 
-// The automaton of a plan's own pattern, and 0; or the first refusal of 1 to 16 and 21 that applies, with every array as it was.
+// The automaton of a plan's own pattern; or the first refusal of 1 to 16 and 21 that applies, with every array as it was.
 pub fn property_of(
     plan: &[u8],
     values: &mut [u64; 2],
     states: &mut [u64; 64],
     moves: &mut [[u8; 32]; 64],
-) -> u32
-    ensures { (result ≡ number_of (first acceptable plan.now)) × (property values.new states.new moves.new ≡ property_in plan.now (property values.old states.old moves.old)) }
+) -> Result<(), Refusal>
+    ensures { (refusal_of result ≡ first acceptable plan.now) × (property values.new states.new moves.new ≡ property_in plan.now (property values.old states.old moves.old)) }
 {
     let mut words = [0u32; 512];
-    let read = pattern::read_pattern(plan, &mut words);
-    let reading = read.reading;
-    let found = reading.outcome;
-    match found {
-        Outcome::Refused(n) => n,
-        Outcome::Accepted => {
-            let d = reading.plan;
-            let items = read.items;
-            property_under(items, d.alphabet, values, states, moves)
-        }
-    }
+    let read = pattern::read_pattern(plan, &mut words)?;
+    property_under(
+        &read.items,
+        read.reading.plan.alphabet,
+        values,
+        states,
+        moves,
+    )
 }

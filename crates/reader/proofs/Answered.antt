@@ -3,16 +3,23 @@ use mathlib.Core.Path.{◌≡◌, refl, sym, ap, subst, ◌∙◌}
 use mathlib.Core.Option.{Option, none, some, some-ne-none}
 use mathlib.Core.List.{List}
 use Prim.Native.Nat.{ℕ}
+use Rattle.std.specs.Prelude.{Result, Ok, Err, IfOk}
+use Rattle.refusals.specs.declared.Refusal.{Refusal}
+use Rattle.refusals.specs.Numbers.{number, refusal_of}
+use Rattle.reader.specs.declared.Reading.{Reading}
 use Rattle.plan.specs.Checks.{first}
 use Rattle.plan.specs.Refusals.{framing, order}
 use Rattle.sections.specs.Layout.{plan_of}
 use Rattle.plan.proofs.Ends.{order_refused}
 use Rattle.words.specs.Words.{Worded}
-use Rattle.reader.specs.Reading.{answered, reading_of, words_under, WordsOf}
+use Rattle.reader.specs.Reading.{accepted, words_under, WordsOf}
 
-pub reading_is : (b : List ℕ) (o : Option ℕ) → first order b ≡ o → reading_of b ≡ answered o b
-unfolding reading_of
-reading_is b o e = ap (λ (x : Option ℕ). answered x b) e
+-- ---- the plan
+
+-- where no refusal applies, what meets the promise of the reader is the plan
+pub accepted_is : (b : List ℕ) (r : Result Reading Refusal) → refusal_of r ≡ first order b → IfOk r (λ x. x ≡ accepted b) → first order b ≡ none → r ≡ Ok (accepted b)
+accepted_is b (Ok x) e h p = ap Ok h
+accepted_is b (Err n) e h p = absurd (some-ne-none (number n) (e ∙ p))
 
 -- ---- the words
 

@@ -1,22 +1,21 @@
 -- Filling the array of the nodes' jobs. Assumes nothing.
-use mathlib.Core.Path.{◌≡◌, ap, ◌∙◌}
-use mathlib.Core.List.{List, [], ◌∷◌, ◌++◌, append_assoc}
-use Prim.Native.Nat.{ℕ, ◌+◌, ◌-◌, ◌<◌}
-use lib.ListN.{length, take, set, replicate, length-append, length-replicate, replicate-append-replicate}
-use lib.Seq.{take_at}
+use mathlib.Core.Path.{◌≡◌, sym}
+use mathlib.Core.List.{List, ◌++◌, append_assoc}
+use Prim.Native.Nat.{ℕ, ◌+◌, ◌-◌, ◌≤◌}
+use native.Mathlib.Omega.{arith}
+use lib.ListN.{length, take, drop, replicate, length-append, length-replicate}
+use lib.Seq.{take_at, drop-append-add}
+use Rattle.std.proofs.lemmas.List.{drop-replicate}
 use Rattle.rows.specs.Rows.{padded}
-use Rattle.rows.proofs.Rows.{padded_push}
 
-replicate_more : (k v : ℕ) → replicate k v ++ (v ∷ []) ≡ replicate (k + 1) v
-replicate_more k v = replicate-append-replicate k 1 v
-
--- one node more
-pub own_more : (xs : List ℕ) (at k v : ℕ) → length xs ≡ at → at + k < 256
-    → set (padded 256 (xs ++ replicate k v)) (at + k) v ≡ padded 256 (xs ++ replicate (k + 1) v)
-own_more xs at k v e h =
-    let l : length (xs ++ replicate k v) ≡ at + k = rw (length-append, length-replicate, e) in
-    padded_push 256 (xs ++ replicate k v) (at + k) v l h
-    ∙ ap (padded 256) (append_assoc xs (replicate k v) (v ∷ []) ∙ ap (λ ys. xs ++ ys) (replicate_more k v))
+-- the nodes of one job more
+pub own_all : (xs : List ℕ) (at n v : ℕ) → length xs ≡ at → at + n ≤ 256
+    → xs ++ (replicate n v ++ drop (at + n) (padded 256 xs)) ≡ padded 256 (xs ++ replicate n v)
+unfolding padded
+own_all xs at n v e h =
+    let k : at + n ≡ length xs + n = omega arith in
+    let rest : 256 - length xs - n ≡ 256 - length (xs ++ replicate n v) = omega (arith, length-append xs (replicate n v), length-replicate {A = ℕ} n v) in
+    rw (k, drop-append-add xs (replicate (256 - length xs) 0) n, drop-replicate, rest) (sym (append_assoc xs (replicate n v) _))
 
 -- what stands before the nodes to come
 pub take_padded : (xs : List ℕ) (at : ℕ) → length xs ≡ at → take at (padded 256 xs) ≡ xs

@@ -17,8 +17,6 @@ use Rattle.sections.proofs.Kept.{jobs_kept}
 use Rattle.plan.specs.Checks.{first}
 use Rattle.plan.specs.Nodes.{owners, total}
 use Rattle.plan.specs.Refusals.{sizes_wrong, wrong_sizes, framing, ends, shape}
-use Rattle.plan.specs.Outcomes.{outcome_of}
-use Rattle.plan.specs.declared.Outcome.{Outcome}
 use Rattle.plan.proofs.Tests.{told}
 use Rattle.plan.proofs.Ranges.{Ranged, Framed, framed}
 use Rattle.plan.proofs.Ends.{shape_5, shape_past, sizes_right}
@@ -96,8 +94,8 @@ module _ {b : List ℕ} {h : Head} {d : Decoded} {before words : List ℕ} (r : 
     nodes_few e = omega (arith, sizes_right d.nodes (jobs_in d.jobs) (told test e), ap (λ (t : Decoded). t.nodes) kept, small.nodes)
 
     -- and 6, 21, and 7 to 9 are next
-    pub ends_next : w ≡ false → (o : Outcome) → o ≡ outcome_of (first ends (plan_of b)) → outcome_of (first shape (plan_of b)) ≡ o
-    ends_next e o q = ap outcome_of (shape_past (plan_of b) (told wrong e)) ∙ sym q
+    pub ends_next : w ≡ false → first shape (plan_of b) ≡ first ends (plan_of b)
+    ends_next e = shape_past (plan_of b) (told wrong e)
 
   -- the job of each node, and with it what is lent
   module _ {owner : List ℕ} (o : owner ≡ padded 256 (owners (jobs_in d.jobs))) where

@@ -1,37 +1,22 @@
 -- What the reader of a plan answers.
-use Rattle.std.specs.Prelude.{ℕ, List, [], ◌≡◌}
+use Rattle.std.specs.Prelude.{ℕ, List, ◌≡◌}
 use Rattle.std.proofs.Math.Option.{Option, none, some}
-use Rattle.sections.specs.Plan.{nothing}
 use Rattle.sections.specs.Layout.{head_of, pattern_at, plan_of}
 use Rattle.rows.specs.Rows.{padded}
 use Rattle.sections.specs.Tables.{decoded_of}
-use Rattle.plan.specs.declared.Outcome.TheVariants.{Accepted, Refused}
 use Rattle.plan.specs.Checks.{first}
 use Rattle.plan.specs.Nodes.{owners}
-use Rattle.plan.specs.Refusals.{framing, order}
+use Rattle.plan.specs.Refusals.{framing}
 use Rattle.words.specs.Words.{Worded}
 use Rattle.reader.specs.declared.Reading.{Reading}
 
--- an accepted plan, with the job of each node and the byte where its pattern starts
+-- an accepted plan, with the job of each node and the byte where its pattern starts; of a refused one the number is told alone
 abbrev pub accepted : List ℕ → Reading
 accepted b = record {
-  outcome = Accepted;
   plan = decoded_of (plan_of b);
   owner = padded 256 (owners (plan_of b).jobs);
   pattern = pattern_at (head_of b);
 }
-
--- "A refusal returns its number and nothing else."
-abbrev pub refused : ℕ → Reading
-refused n = record { outcome = Refused n; plan = decoded_of nothing; owner = padded 256 []; pattern = 0 }
-
-abbrev pub answered : Option ℕ → List ℕ → Reading
-answered none b = accepted b
-answered (some n) b = refused n
-
--- the reader's answer to the bytes of a plan
-unfoldable pub reading_of : List ℕ → Reading
-reading_of b = answered (first order b) b
 
 -- where none of 1 to 4 applies the arcs of the plan stand in the words; else these are as they were
 abbrev pub words_under : Option ℕ → (b before after : List ℕ) → Type 0

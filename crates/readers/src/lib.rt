@@ -1,132 +1,103 @@
-// The readers of typed patterns: choices, sequences and units, which call each other.
+// The readers of typed patterns: choices, sequences and units, which call each other. Each tells where it has come to, the next place of the text,
+// or that what it reads is broken. The items go into a lent order, each as the place of its first byte.
 #![tactic(auto)]
 
-ghost use Rattle.std.specs.Prelude.{◌≡◌, false, ◌≤◌, length, drop};
+ghost use Rattle.std.specs.Prelude.{◌≡◌, false, [], ◌≤◌, length, drop};
 ghost use Rattle.grammar.specs.Grammar.{opening};
 ghost use Rattle.grammar.specs.Ways.{starts_with, chain, choices, sequences, one_unit};
 ghost use Rattle.readers.specs.Readers.{Lent, Starred, Closes, Went, Read};
 
-use leaves::{End, is_at, leaf_end};
+use arrayvec::ArrayVec;
+use leaves::{is_at, leaf_end};
 
-// Where a reader has come to: the next place of the text, and how many items there are. The items stand in a lent order, each as
-// the place of its first byte: the readers hand on nothing that is large.
-#[derive(Drop)]
-pub enum Reached {
-    Broken,
-    Next(usize, usize),
-}
+// The places of the first bytes of items, in fixed memory.
+pub type Order = ArrayVec<u8, 256>;
 
-// The stars from `from` on: how many there are.
-fn stars(text: &[u8], from: usize, order: &mut [u8; 256], already: usize) -> usize
-    requires { Lent text.now order.old from already × (from ≤ length text.now) }
-    ensures { Starred text.now from already order.old order.new result }
+// The stars from `from` on: the place behind them.
+fn stars(text: &[u8], from: usize, order: &mut Order) -> usize
+    requires { Lent text.now order.old.items from × (from ≤ length text.now) }
+    ensures { Starred text.now from order.old.items order.new.items result }
 {
-    let mut k: usize = 0;
-    while is_at(text, from + k, b'*') {
-        order[already + k] = (from + k) as u8;
-        k += 1;
+    // A `while`, since the place at which it stops is the answer.
+    let mut at = from;
+    while is_at(text, at, b'*') {
+        order.push(at as u8);
+        at += 1;
     }
-    k
+    at
 }
 
 // A unit without round brackets.
-fn plain(text: &[u8], at: usize, order: &mut [u8; 256], count: usize) -> Reached
-    requires { Lent text.now order.old at count × (starts_with opening (drop at text.now) ≡ false) }
-    ensures { Went text.now at count order.old order.new one_unit result }
+fn plain(text: &[u8], at: usize, order: &mut Order) -> Option<usize>
+    requires { Lent text.now order.old.items at × (starts_with opening (drop at text.now) ≡ false) }
+    ensures { Went text.now at order.old.items order.new.items one_unit result }
 {
-    let leaf = leaf_end(text, at);
-    match leaf {
-        End::Broken => Reached::Broken,
-        End::Next(end) => {
-            order[count] = at as u8;
-            let k = stars(text, end, order, count + 1);
-            Reached::Next(end + k, count + 1 + k)
-        }
-    }
+    let end = leaf_end(text, at)?;
+    order.push(at as u8);
+    Some(stars(text, end, order))
 }
 
 // What is left of a unit behind the choice in its brackets.
-fn closed(text: &[u8], at: usize, order: &mut [u8; 256], count: usize) -> Reached
-    requires { Lent text.now order.old at count }
-    ensures { Closes text.now at count order.old order.new result }
+fn closed(text: &[u8], at: usize, order: &mut Order) -> Option<usize>
+    requires { Lent text.now order.old.items at }
+    ensures { Closes text.now at order.old.items order.new.items result }
 {
     if is_at(text, at, b')') {
-        let k = stars(text, at + 1, order, count);
-        Reached::Next(at + 1 + k, count + k)
+        Some(stars(text, at + 1, order))
     } else {
-        Reached::Broken
+        None
     }
 }
 
 // A unit: letter, set, empty string or a choice in brackets, with its stars.
 #[cycle(choice_sequence_unit)]
-fn unit(text: &[u8], at: usize, order: &mut [u8; 256], count: usize) -> Reached
-    requires { Lent text.now order.old at count }
-    ensures { Went text.now at count order.old order.new one_unit result }
+fn unit(text: &[u8], at: usize, order: &mut Order) -> Option<usize>
+    requires { Lent text.now order.old.items at }
+    ensures { Went text.now at order.old.items order.new.items one_unit result }
 {
     if is_at(text, at, b'(') {
-        let inner = choice(text, at + 1, order, count);
-        let Reached::Next(end, n) = inner else {
-            return Reached::Broken;
-        };
-        return closed(text, end, order, n);
+        let end = choice(text, at + 1, order)?;
+        return closed(text, end, order);
     }
-    plain(text, at, order, count)
+    plain(text, at, order)
 }
 
-// A sequence: units, a `;` between them.
+// A sequence: units, a `;` between them. It is no one reader with the choice, since the grammar has a rule for each; and a `while` in both, since each
+// turn goes on where the reader of an operand came to.
 #[cycle(choice_sequence_unit)]
-fn sequence(text: &[u8], from: usize, order: &mut [u8; 256], already: usize) -> Reached
-    requires { Lent text.now order.old from already }
-    ensures { Went text.now from already order.old order.new (chain sequences) result }
+fn sequence(text: &[u8], from: usize, order: &mut Order) -> Option<usize>
+    requires { Lent text.now order.old.items from }
+    ensures { Went text.now from order.old.items order.new.items (chain sequences) result }
 {
-    let first = unit(text, from, order, already);
-    let Reached::Next(first_end, first_count) = first else {
-        return Reached::Broken;
-    };
-    let mut at = first_end;
-    let mut count = first_count;
+    let mut at = unit(text, from, order)?;
     while is_at(text, at, b';') {
-        let next = unit(text, at + 1, order, count);
-        let Reached::Next(end, n) = next else {
-            return Reached::Broken;
-        };
-        order[n] = at as u8;
+        let end = unit(text, at + 1, order)?;
+        order.push(at as u8);
         at = end;
-        count = n + 1;
     }
-    Reached::Next(at, count)
+    Some(at)
 }
 
 // A choice: sequences, a `|` between them.
 #[cycle(choice_sequence_unit)]
-fn choice(text: &[u8], from: usize, order: &mut [u8; 256], already: usize) -> Reached
-    requires { Lent text.now order.old from already }
-    ensures { Went text.now from already order.old order.new (chain choices) result }
+fn choice(text: &[u8], from: usize, order: &mut Order) -> Option<usize>
+    requires { Lent text.now order.old.items from }
+    ensures { Went text.now from order.old.items order.new.items (chain choices) result }
 {
-    let first = sequence(text, from, order, already);
-    let Reached::Next(first_end, first_count) = first else {
-        return Reached::Broken;
-    };
-    let mut at = first_end;
-    let mut count = first_count;
+    let mut at = sequence(text, from, order)?;
     while is_at(text, at, b'|') {
-        let next = sequence(text, at + 1, order, count);
-        let Reached::Next(end, n) = next else {
-            return Reached::Broken;
-        };
-        order[n] = at as u8;
+        let end = sequence(text, at + 1, order)?;
+        order.push(at as u8);
         at = end;
-        count = n + 1;
     }
-    Reached::Next(at, count)
+    Some(at)
 }
 
-// The choice with which a text begins, its items in a lent order. What the order holds behind them, or where there is no choice, is
-// left open.
-pub fn read_choice(text: &[u8], order: &mut [u8; 256]) -> Reached
-    requires { (length text.now ≤ 255) × (length order.old ≡ 256) }
-    ensures { Read text.now order.new result }
+// The choice with which a text begins, its items in a lent order, whatever it held before. Where there is no choice, the order is left open.
+pub fn read_choice(text: &[u8], order: &mut Order) -> Option<usize>
+    requires { length text.now ≤ 255 }
+    ensures { Read text.now order.new.items result }
 {
-    choice(text, 0, order, 0)
+    order.clear();
+    choice(text, 0, order)
 }

@@ -12,26 +12,25 @@ use Rattle.plan.proofs.Tests.{first_append}
 use Rattle.plan.proofs.Legality.{legal}
 use Rattle.pattern.specs.Refusals.{readable, too_many_states, acceptable}
 use Rattle.pattern.proofs.Part.{before_items}
-use Rattle.verdict.specs.declared.Answer.{Answer}
+use Rattle.arrayvec.specs.ArrayVec.{ArrayVec}
+use Rattle.verdict.specs.Answer.{Answer}
 use Rattle.promises.specs.Order.{Pattern, own, expression_by, text_refusal, many_states, judgeable, late_refusal}
 use Rattle.promises.specs.Judged.{Promise, Judged, JudgedText}
 use Rattle.promises.proofs.Refusals.{in_order}
 use Rattle.promises.proofs.Unique.{Determined, judged_unique}
 use Rattle.promises.proofs.TextUnique.{typed_unique}
-use Rattle.line.specs.declared.Line.{Line}
 use Rattle.line.specs.Line.{line_of}
-use Rattle.line.specs.Array.{line_array}
 use Rattle.report.specs.Reports.{Reports}
 
-one_line : (P : Promise) → Determined P → (l m : Line) → Reports P l → Reports P m → l ≡ m
+one_line : (P : Promise) → Determined P → (l m : ArrayVec ℕ) → Reports P l → Reports P m → l ≡ m
 one_line P one l m x y =
-    x.printed ∙ ap (λ (a : Answer). line_array (line_of a)) (one (replicate 256 0) x.answer y.answer x.row y.row x.judged y.judged).0
-    ∙ sym y.printed
+    let same = x.printed ∙ ap line_of (one (replicate 256 0) x.answer y.answer x.row y.row x.judged y.judged).0 ∙ sym y.printed in
+    λ i. record { items = same i }
 
-pub reports_unique : (b : List ℕ) (l m : Line) → Reports (Judged own b) l → Reports (Judged own b) m → l ≡ m
+pub reports_unique : (b : List ℕ) (l m : ArrayVec ℕ) → Reports (Judged own b) l → Reports (Judged own b) m → l ≡ m
 reports_unique b = one_line (Judged own b) (judged_unique own b)
 
-pub text_reports_unique : (b w : List ℕ) (l m : Line) → Reports (JudgedText b w) l → Reports (JudgedText b w) m → l ≡ m
+pub text_reports_unique : (b w : List ℕ) (l m : ArrayVec ℕ) → Reports (JudgedText b w) l → Reports (JudgedText b w) m → l ≡ m
 text_reports_unique b w = one_line (JudgedText b w) (typed_unique b w)
 
 -- a row of 256 places is long enough for every plan: the checks are those before 17

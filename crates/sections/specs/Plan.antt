@@ -1,5 +1,5 @@
 -- What a plan says, as lists. Document 01, "The bit-packed plan".
-use Rattle.std.specs.Prelude.{ℕ, zero, suc, Bool, List, [], eqb, get_or}
+use Rattle.std.specs.Prelude.{ℕ, zero, suc, Bool, List, eqb, get_or}
 use Rattle.sections.specs.declared.Kind.{Kind}
 use Rattle.sections.specs.declared.Kind.TheVariants.{Every, None}
 
@@ -45,17 +45,3 @@ pub record Plan : Type 0 where
 abbrev pub kind_of : ℕ → Kind
 kind_of zero = Every
 kind_of (suc k) = None
-
--- a plan that says nothing, which stands in where there is none
-abbrev pub nothing : Plan
-nothing = record {
-  nodes = 0;
-  kind = Every;
-  items = 0;
-  alphabet = 0;
-  jobs = [];
-  steps = [];
-  channels = [];
-  calls = [];
-  accepts = [];
-}

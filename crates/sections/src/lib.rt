@@ -1,13 +1,12 @@
 // The format of a plan before its pattern: its head, where its sections stand, and the tables that keep them.
 #![tactic(auto)]
 
-ghost use Rattle.std.specs.Prelude.{◌≡◌, ◌<◌, ◌≤◌, length};
-ghost use Rattle.sections.specs.Plan.{nothing, stands};
+ghost use Rattle.std.specs.Prelude.{◌≡◌, ◌≤◌, length};
+ghost use Rattle.sections.specs.Plan.{kind_of};
 ghost use Rattle.sections.specs.Layout.{head_of, end_at};
-ghost use Rattle.sections.specs.Tables.{decoded_of};
 
 // What a plan claims of its complete runs.
-#[derive(Clone, Copy)]
+#[derive(Clone, Copy, Debug, PartialEq, Eq)]
 pub enum Kind {
     Every,
     None,
@@ -22,11 +21,11 @@ pub struct Head {
     pub calls: usize,
     pub accepts: usize,
     pub channels: usize,
-    pub kind: usize,
+    pub kind: Kind,
     pub items: usize,
 }
 
-// The jobs, a place in each array for each; `standing` has the last bits of their records.
+// The jobs, a place in each array for each; `standing` has the last bits of their records. They stay four arrays, since they are handed out to C so.
 #[derive(Clone, Copy)]
 pub struct Jobs {
     pub size: [u16; 16],
@@ -36,7 +35,7 @@ pub struct Jobs {
     pub count: usize,
 }
 
-// The event of each channel.
+// The event of each channel: an array that is handed out to C as it stands, and asked past the count.
 #[derive(Clone, Copy)]
 pub struct Channels {
     pub event: [u8; 64],
@@ -57,18 +56,11 @@ pub struct Decoded {
     pub accepts: usize,
 }
 
-// A place of a table as a number to reckon with: the contract has the range.
-pub fn byte(n: u8) -> usize
-    ensures { (result ≡ n) × (result < 256) }
+// The kind that a bit says.
+fn kind_of(bit: usize) -> Kind
+    ensures { result ≡ kind_of bit }
 {
-    n as usize
-}
-
-// Whether the last bit of a job's record says that it stands.
-pub fn is_standing(bit: u8) -> bool
-    ensures { result ≡ stands bit }
-{
-    bit == 1
+    if bit == 0 { Kind::Every } else { Kind::None }
 }
 
 // The head, 54 bits.
@@ -83,7 +75,7 @@ pub fn read_head(plan: &[u8]) -> Head
         calls: fields::field(plan, 23, 8),
         accepts: fields::field(plan, 31, 8),
         channels: fields::field(plan, 39, 7),
-        kind: fields::field(plan, 46, 1),
+        kind: kind_of(fields::field(plan, 46, 1)),
         items: fields::field(plan, 47, 7),
     }
 }
@@ -94,30 +86,4 @@ pub fn end_of(h: Head) -> usize
     ensures { result ≡ end_at h }
 {
     85 + 26 * h.jobs + 21 * h.steps + 5 * h.channels + 22 * h.calls + 22 * h.accepts
-}
-
-// The tables of no plan.
-pub fn blank() -> Decoded
-    ensures { result ≡ decoded_of nothing }
-{
-    Decoded {
-        nodes: 0,
-        kind: Kind::Every,
-        items: 0,
-        alphabet: 0,
-        jobs: Jobs {
-            size: [0; 16],
-            entry: [0; 16],
-            exit: [0; 16],
-            standing: [0; 16],
-            count: 0,
-        },
-        steps: 0,
-        channels: Channels {
-            event: [0; 64],
-            count: 0,
-        },
-        calls: 0,
-        accepts: 0,
-    }
 }

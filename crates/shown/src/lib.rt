@@ -12,14 +12,11 @@ fn print_row(rt: &impl Print, row: &[u64]) -> usize
     ensures { result ≡ length row.now }
 {
     let _ = print!(rt; "  row");
-    let mut n: usize = 0;
-    while n < row.len() {
-        let set = row[n];
+    for set in row {
         let _ = print!(rt; " {set:x}");
-        n += 1;
     }
     let _ = println!(rt; "");
-    n
+    row.len()
 }
 
 // Prints the name of a case, the line of its answer, and the row behind it, and tells how many places of the row it printed: all of
@@ -28,10 +25,9 @@ pub fn print_case(rt: &impl Print, name: &[u8], answer: Answer, row: &[u64]) -> 
     ensures { result ≡ length row.now }
 {
     let line = line::line_of(answer);
-    let bytes = line.bytes;
     let mut out = io::writer(rt);
     let _ = out.write_all(name);
     let _ = out.write_all(b"\n  ");
-    let _ = out.write_all(&bytes[..line.used]);
+    let _ = out.write_all(&line);
     print_row(rt, row)
 }

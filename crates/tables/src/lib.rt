@@ -4,18 +4,11 @@
 ghost use Rattle.std.specs.Prelude.{◌≡◌, ℕ, ◌+◌, ◌*◌, ◌≤◌, length};
 ghost use Rattle.fields.specs.Bits.{field_at};
 ghost use Rattle.rows.specs.Rows.{row};
-ghost use Rattle.sections.specs.Plan.{kind_of};
 ghost use Rattle.sections.specs.Layout.{job_bits, job_at, arc_at, plan_under, Readable};
 ghost use Rattle.sections.specs.Tables.{job_table, channel_table, decoded_of};
 ghost use Rattle.words.specs.Words.{Packed, Worded};
 
-use sections::{Channels, Decoded, Head, Jobs, Kind};
-
-fn kind_of(bit: usize) -> Kind
-    ensures { result ≡ kind_of bit }
-{
-    if bit == 0 { Kind::Every } else { Kind::None }
-}
+use sections::{Channels, Decoded, Head, Jobs};
 
 // The jobs that stand from place `at` on.
 fn read_jobs(plan: &[u8], at: usize, count: usize) -> Jobs
@@ -26,21 +19,19 @@ fn read_jobs(plan: &[u8], at: usize, count: usize) -> Jobs
     let mut entry = [0u8; 16];
     let mut exit = [0u8; 16];
     let mut standing = [0u8; 16];
-    let mut i: usize = 0;
-    while i < count {
+    for i in 0..count {
         let b = at + 26 * i;
         size[i] = fields::field(plan, b, 9) as u16;
         entry[i] = fields::field(plan, b + 9, 8) as u8;
         exit[i] = fields::field(plan, b + 17, 8) as u8;
         standing[i] = fields::field(plan, b + 25, 1) as u8;
-        i += 1;
     }
     Jobs {
-        size: size,
-        entry: entry,
-        exit: exit,
-        standing: standing,
-        count: count,
+        size,
+        entry,
+        exit,
+        standing,
+        count,
     }
 }
 
@@ -56,14 +47,12 @@ fn read_arcs(
     requires { (width ≤ 8) × (count ≤ 256) × (at ≤ 16384) × (at + (16 + width) * count ≤ 8 * length plan.now) × (place + count ≤ 512) × (length words.old ≡ 512) }
     ensures { Packed (λ (i : ℕ). arc_at plan.now width (at + (16 + width) * i)) place count words.old words.new }
 {
-    let mut i: usize = 0;
-    while i < count {
+    for i in 0..count {
         let arc = fields::field(plan, at + (16 + width) * i, 16 + width);
         let from = arc >> (8 + width);
         let to = (arc >> width) % 256;
         let label = arc % (1 << width);
         words[place + i] = (from + 256 * to + 65536 * label) as u32;
-        i += 1;
     }
 }
 
@@ -73,15 +62,10 @@ fn read_channels(plan: &[u8], at: usize, count: usize) -> Channels
     ensures { result ≡ channel_table (row count (λ (i : ℕ). field_at plan.now (at + 5 * i) 5)) }
 {
     let mut event = [0u8; 64];
-    let mut i: usize = 0;
-    while i < count {
+    for i in 0..count {
         event[i] = fields::field(plan, at + 5 * i, 5) as u8;
-        i += 1;
     }
-    Channels {
-        event: event,
-        count: count,
-    }
+    Channels { event, count }
 }
 
 // What the plan says before its pattern, under its head. The arcs go into the words.
@@ -98,7 +82,7 @@ pub fn decode(plan: &[u8], h: Head, words: &mut [u32; 512]) -> Decoded
     read_arcs(plan, 6, accepts_at, h.accepts, words, 384);
     Decoded {
         nodes: h.nodes,
-        kind: kind_of(h.kind),
+        kind: h.kind,
         items: h.items,
         alphabet: fields::events(plan, 54),
         jobs: read_jobs(plan, 85, h.jobs),

@@ -3,33 +3,29 @@
 
 ghost use Rattle.text.specs.Typed.{Typed};
 
-use items::{ItemsRead, none_read};
-use plan::Outcome;
-use readers::Reached;
+use items::Items;
+use readers::Order;
+use refusals::Refusal;
 
 // The items of a text under an alphabet, or the first refusal of 18 to 20 that applies.
-pub fn read_text(text: &[u8], alphabet: u32) -> ItemsRead
+pub fn read_text(text: &[u8], alphabet: u32) -> Result<Items, Refusal>
     ensures { Typed text.now alphabet result }
 {
     if 255 < text.len() {
-        return none_read(18);
+        return Err(Refusal::Unreadable);
     }
-    let mut order = [0u8; 256];
-    let read = readers::read_choice(text, &mut order);
-    let Reached::Next(end, count) = read else {
-        return none_read(18);
+    let mut order = Order::new();
+    let Some(end) = readers::read_choice(text, &mut order) else {
+        return Err(Refusal::Unreadable);
     };
     if end < text.len() {
-        return none_read(18);
+        return Err(Refusal::Unreadable);
     }
-    if 64 < count {
-        return none_read(19);
+    if 64 < order.len() {
+        return Err(Refusal::ManyItems);
     }
     if symbols::has_strange(text, alphabet) {
-        return none_read(20);
+        return Err(Refusal::StrangeLetter);
     }
-    ItemsRead {
-        outcome: Outcome::Accepted,
-        items: symbols::items_by(text, alphabet, &order, count),
-    }
+    Ok(symbols::items_by(text, alphabet, &order))
 }

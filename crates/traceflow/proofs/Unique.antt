@@ -5,11 +5,11 @@ use mathlib.Core.Logic.{◌↔◌}
 use mathlib.Core.Option.{Option, none, some, some-ne-none}
 use Prim.Native.Nat.{ℕ}
 use lib.ListN.{length}
+use Rattle.std.specs.Prelude.{Ok, Err}
 use Rattle.plan.specs.Checks.{first}
+use Rattle.refusals.specs.Numbers.{number, refusal_of}
 use Rattle.grammar.specs.Grammar.{Tree, Reading}
-use Rattle.verdict.specs.declared.Answer.{Answer}
-use Rattle.verdict.specs.declared.Answer.TheVariants.{Refused, Verified, Inconclusive}
-use Rattle.verdict.specs.Answer.{refusal_of}
+use Rattle.verdict.specs.Answer.{Answer}
 use Rattle.verdict.specs.Told.{number_of, values_in}
 use Rattle.promises.specs.Order.{Pattern, own, typed, judgeable}
 use Rattle.promises.specs.Judged.{Promise, Judged, JudgedText}
@@ -51,12 +51,11 @@ module _ (q : Pattern) (b before : List ℕ) where
       refused = first (judgeable q (length before)) b
 
       go : (a : Answer) → m ≡ number_of a → refusal_of a ≡ refused → (m ≡ 0) ↔ (refused ≡ none)
-      go (Refused n) e r = (
+      go (Err x) e r = (
         (λ z. absurd (no_refusal_zero q (length before) b (sym r ∙ ap some (sym e ∙ z)))),
-        (λ z. absurd (some-ne-none n (r ∙ z))),
+        (λ z. absurd (some-ne-none (number x) (r ∙ z))),
       )
-      go (Verified c) e r = ((λ z. sym r), (λ z. e))
-      go (Inconclusive c) e r = ((λ z. sym r), (λ z. e))
+      go (Ok v) e r = ((λ z. sym r), (λ z. e))
 
 pub zero_judged : (b before counts : List ℕ) (m : ℕ) (u s : List ℕ) → Exported (Judged own b) before counts m u s → Zero own b before m
 zero_judged b before counts m u s x = zero_answer own b before m u x.answer x.judged x.numbered

@@ -3,12 +3,15 @@
 
 ghost use Rattle.std.specs.Prelude.{◌≡◌, ◌≤◌};
 ghost use Rattle.plan.specs.Checks.{first};
+ghost use Rattle.refusals.specs.Numbers.{refusal_of};
 ghost use Rattle.pattern.specs.Refusals.{readable, acceptable};
 ghost use Rattle.readback.specs.Tables.{number_of, tables, tables_in};
 ghost use Rattle.readback.specs.Property.{property, property_in};
 ghost use Rattle.promises.specs.Order.{own};
 ghost use Rattle.promises.specs.Judged.{Judged, JudgedText};
 ghost use Rattle.traceflow.specs.Exported.{Exported, at_end, place_of};
+
+use refusals::Refusal;
 
 // The answer to a plan: 0 where it is judged, with the sets in the row and the values of the verdict in `counts`; else the number
 // of the first refusal that applies, with both as they were.
@@ -55,6 +58,16 @@ pub extern "C" fn traceflow_pattern_part(plan: &[u8], place: &mut [usize; 2])
     *place = at_end(plan.len(), part.len());
 }
 
+// What a result tells C: the number of a refusal, or 0.
+fn told(found: Result<(), Refusal>) -> u32
+    ensures { result ≡ number_of (refusal_of found) }
+{
+    match found {
+        Ok(()) => 0,
+        Err(refusal) => u32::from(refusal),
+    }
+}
+
 // The tables of the plan that the bytes hold, and 0; or the first refusal of 1 to 15 and 21 that applies, with every array as it was.
 #[unsafe(no_mangle)]
 pub extern "C" fn traceflow_tables(
@@ -71,9 +84,9 @@ pub extern "C" fn traceflow_tables(
 ) -> u32
     ensures { (result ≡ number_of (first readable plan.now)) × (tables counts.new size.new entry.new exit.new standing.new event.new arcs.new kinds.new sets.new ≡ tables_in plan.now (tables counts.old size.old entry.old exit.old standing.old event.old arcs.old kinds.old sets.old)) }
 {
-    readback::tables_of(
+    told(readback::tables_of(
         plan, counts, size, entry, exit, standing, event, arcs, kinds, sets,
-    )
+    ))
 }
 
 // The automaton of a plan's own pattern, and 0; or the first refusal of 1 to 16 and 21 that applies, with every array as it was.
@@ -86,5 +99,5 @@ pub extern "C" fn traceflow_automaton(
 ) -> u32
     ensures { (result ≡ number_of (first acceptable plan.now)) × (property values.new states.new moves.new ≡ property_in plan.now (property values.old states.old moves.old)) }
 {
-    readback::property_of(plan, values, states, moves)
+    told(readback::property_of(plan, values, states, moves))
 }

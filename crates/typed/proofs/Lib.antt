@@ -1,4 +1,3 @@
 -- Laws of the judge of typed patterns.
 pub mod Postfix
 pub mod Reader
-pub mod Read

@@ -3,7 +3,7 @@
 use mathlib.Core.Path.{◌≡◌, refl, ap}
 use mathlib.Core.List.{List, [], ◌∷◌, map, Memᴰ}
 use mathlib.Core.Option
-use mathlib.Core.Option.{Option, none, some, none-ne-some, some-ne-none, some-injective}
+use mathlib.Core.Option.{Option, none, some, some-ne-none, map-eq-some_iff}
 use Prim.Native.Nat.{ℕ}
 use Rattle.masks.specs.Mask.{digit}
 use Rattle.fields.specs.Bits.{bits_of, value_from, field_at, events_from, events_at}
@@ -12,7 +12,8 @@ use Rattle.rows.specs.Rows.{row}
 use Rattle.sections.specs.Layout.{plan_of}
 use Rattle.plan.specs.Checks.{first, any_from}
 use Rattle.plan.proofs.Cases.{P, agree}
-use Rattle.expressions.specs.Items.{Item, push_all}
+use Rattle.expressions.specs.declared.Item.{Item}
+use Rattle.expressions.specs.Items.{push_all}
 use Rattle.item.specs.Faults.{item_at}
 use Rattle.items.specs.Refusals.{read}
 use Rattle.grammar.specs.Grammar.{Tree}
@@ -21,7 +22,7 @@ use Rattle.grammar.specs.Ways.{letters, past_letters, stars}
 use Rattle.grammar.proofs.Evaluate.{run}
 use Rattle.pattern.specs.Refusals.{items_of_plan}
 use Rattle.pattern.proofs.Cases.{two_jobs, distance}
-use Rattle.verdict.specs.declared.Answer.{Answer}
+use Rattle.verdict.specs.Answer.{Answer}
 use Rattle.promises.specs.Order.{own}
 use Rattle.promises.specs.Judged.{Judged, JudgedText}
 use Rattle.promises.proofs.SameItems.{same_items}
@@ -48,13 +49,13 @@ refused_unread c e = some-ne-none 18 (ap (λ (x : Option ℕ × List Item). x.0)
 by_items : (n : ℕ) (c : OwnCase) → Option.map (refusal_and_items c) (read_within n c.text) ≡ some (asked c)
     → (before : List ℕ) (x y : Answer) (u v : List ℕ)
     → JudgedText c.bytes c.text before x u → Judged own c.bytes before y v → (x ≡ y) × (u ≡ v)
-by_items n c e before x y u v j k = go (read_within n c.text) refl e
+by_items n c e before x y u v j k =
+    let made = (map-eq-some_iff (refusal_and_items c) (read_within n c.text)).0 e in
+    go made.0 made.1 made.2
   where
-    go : (o : Option (Option Tree)) → read_within n c.text ≡ o → Option.map (refusal_and_items c) o ≡ some (asked c) → (x ≡ y) × (u ≡ v)
-    go none q p = absurd (none-ne-some (asked c) p)
-    go (some none) q p = absurd (refused_unread c (some-injective (refusal_and_items c none) (asked c) p))
-    go (some (some t)) q p =
-        let same = some-injective (refusal_and_items c (some t)) (asked c) p in
+    go : (o : Option Tree) → read_within n c.text ≡ some o → refusal_and_items c o ≡ asked c → (x ≡ y) × (u ≡ v)
+    go none q same = absurd (refused_unread c same)
+    go (some t) q same =
         same_items c.bytes c.text before t (read_within_lem n c.text (some t) q)
         (ap (λ (z : Option ℕ × List Item). z.0) same) (ap (λ (z : Option ℕ × List Item). z.1) same) x y u v j k
 

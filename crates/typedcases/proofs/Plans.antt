@@ -2,10 +2,12 @@
 -- Document 02, order 1.
 use mathlib.Core.Path.{◌≡◌, refl}
 use mathlib.Core.List.{List, [], ◌∷◌, ◌++◌, map, Memᴰ}
-use mathlib.Core.Option.{Option, none, some, none-ne-some}
+use mathlib.Core.Option
+use mathlib.Core.Option.{Option, some, bind-eq-some_iff}
 use Prim.Native.Nat.{ℕ}
 use lib.Count.{ones}
 use lib.ListN.{take, set}
+use Rattle.std.specs.Prelude.{Ok, Err}
 use Rattle.masks.specs.Mask.{digit, gather_below, pairs_of}
 use Rattle.fields.specs.Bits.{bits_of, value_from, field_at, events_from, events_at}
 use Rattle.line.specs.Line.{text}
@@ -29,9 +31,11 @@ use Rattle.grammar.proofs.Evaluate.{run}
 use Rattle.automaton.specs.Automaton.{watched_below, states_of, table_of, accepting_below}
 use Rattle.pattern.proofs.Cases.{two_jobs, distance}
 use Rattle.graph.specs.Edges.{each, meetings_of, edges_of}
+use Rattle.refusals.specs.declared.Refusal.{Refusal}
+use Rattle.refusals.specs.declared.Refusal.TheVariants.{TooShort, CutShort, WrongSizes, StrayEnd, ItemsCut, NoKind, StrangeEvent, FewOperands, OperandsLeft, Trailing, ManyStates, ShortRow, Unreadable, ManyItems, StrangeLetter, NoneEnds}
 use Rattle.verdict.specs.declared.Counts.{Counts}
-use Rattle.verdict.specs.declared.Answer.{Answer}
-use Rattle.verdict.specs.declared.Answer.TheVariants.{Refused, Verified, Inconclusive}
+use Rattle.verdict.specs.declared.Verdict.TheVariants.{Verified, Inconclusive}
+use Rattle.verdict.specs.Answer.{Answer}
 use Rattle.verdict.specs.Verdict.{final_below, rounded}
 use Rattle.promises.specs.Order.{typed}
 use Rattle.promises.specs.Judged.{JudgedText}
@@ -42,21 +46,19 @@ use Rattle.typedcases.proofs.Items.{more}
 
 -- ---- an executable judge
 
-abbrev judged_by : (k : ℕ) → (b w before : List ℕ) → Option (Option Tree) → Option Outcome
-judged_by k b w before none = none
-judged_by k b w before (some t) = evaluate (typed w t) k b before
-
 -- a text read within n steps, and k rounds of the flow rules; none where either are too few
 abbrev evaluate_text : (n k : ℕ) → (b w before : List ℕ) → Option Outcome
-evaluate_text n k b w before = judged_by k b w before (read_within n w)
+evaluate_text n k b w before = Option.bind (read_within n w) (λ (t : Option Tree). evaluate (typed w t) k b before)
 
 evaluate_text_lem : (n k : ℕ) (b w before : List ℕ) (a : Answer) (after : List ℕ) → evaluate_text n k b w before ≡ some (a, after)
     → JudgedText b w before a after
-evaluate_text_lem n k b w before a after = go (read_within n w) refl
-  where
-    go : (o : Option (Option Tree)) → read_within n w ≡ o → judged_by k b w before o ≡ some (a, after) → JudgedText b w before a after
-    go none q e = absurd (none-ne-some (a, after) e)
-    go (some t) q e = record { tree = t; reading = read_within_lem n w t q; judged = evaluate_judged (typed w t) k b before a after e }
+evaluate_text_lem n k b w before a after e =
+    let made = (bind-eq-some_iff (read_within n w) (λ (t : Option Tree). evaluate (typed w t) k b before)).0 e in
+    record {
+      tree = made.0;
+      reading = read_within_lem n w made.0 made.1;
+      judged = evaluate_judged (typed w made.0) k b before a after made.2;
+    }
 
 -- ---- plans and texts
 
@@ -81,17 +83,17 @@ pub record TypedCase : Type 0 where
   pub answer : Answer
   pub after : List ℕ
 
-abbrev refused : (bytes text before : List ℕ) → ℕ → TypedCase
-refused bytes w before n = record { bytes = bytes; text = w; before = before; answer = Refused n; after = before }
+abbrev refused : (bytes text before : List ℕ) → Refusal → TypedCase
+refused bytes w before x = record { bytes = bytes; text = w; before = before; answer = Err x; after = before }
 
 abbrev counts : (states meetings ordering pairs fill ends : ℕ) → Counts
 counts s m o p f e = record { states = s; meetings = m; ordering = o; pairs = p; fill = f; ends = e }
 
 abbrev verified : (bytes text before : List ℕ) → Counts → (after : List ℕ) → TypedCase
-verified bytes w before c after = record { bytes = bytes; text = w; before = before; answer = Verified c; after = after }
+verified bytes w before c after = record { bytes = bytes; text = w; before = before; answer = Ok (Verified c); after = after }
 
 abbrev inconclusive : (bytes text before : List ℕ) → Counts → (after : List ℕ) → TypedCase
-inconclusive bytes w before c after = record { bytes = bytes; text = w; before = before; answer = Inconclusive c; after = after }
+inconclusive bytes w before c after = record { bytes = bytes; text = w; before = before; answer = Ok (Inconclusive c); after = after }
 
 -- lent rows
 abbrev eight : List ℕ
@@ -139,40 +141,40 @@ abbrev of_many_states : List TypedCase
 of_many_states =
     verified (distance 14 5) (text "a") three (counts 3 0 0 2 33 2) (1 ∷ 2 ∷ 9 ∷ [])
     ∷ inconclusive (distance 14 5) (late 4) three (counts 33 0 0 2 3 2) (1 ∷ 2 ∷ 9 ∷ [])
-    ∷ refused (distance 14 5) (late 5) three 16
-    ∷ refused (distance 12 4) (late 5) three 16
+    ∷ refused (distance 14 5) (late 5) three ManyStates
+    ∷ refused (distance 12 4) (late 5) three ManyStates
     ∷ []
 
 -- "the plan's own, which must still pass 10 to 15"
 abbrev own_items : List TypedCase
 own_items =
-    refused (take 21 P) (text "a") three 10
-    ∷ refused (with_items (kind 5)) (text "a") three 11
-    ∷ refused (with_items (one (2 ∷ []))) (text "a") three 12
-    ∷ refused (with_items repeat) (text "a") three 13
-    ∷ refused two_left (text "a") three 14
-    ∷ refused (set P 21 0x01) (text "a") three 15
+    refused (take 21 P) (text "a") three ItemsCut
+    ∷ refused (with_items (kind 5)) (text "a") three NoKind
+    ∷ refused (with_items (one (2 ∷ []))) (text "a") three StrangeEvent
+    ∷ refused (with_items repeat) (text "a") three FewOperands
+    ∷ refused two_left (text "a") three OperandsLeft
+    ∷ refused (set P 21 0x01) (text "a") three Trailing
     ∷ []
 
 -- 1 to 15, then 18 to 20, then 16, then 17
 abbrev overlaps : List TypedCase
 overlaps =
-    refused (take 10 P) (text "a;") short 1  -- 1, 18 and 17
-    ∷ refused (take 16 P) (text "a;") short 3
-    ∷ refused (take 21 P) (text "a;") short 10
-    ∷ refused (take 21 P) (text "a" ++ more "a" 32) short 10  -- 10, 19 and 17
-    ∷ refused (take 21 P) (text "b") short 10  -- 10, 20 and 17
-    ∷ refused (set P 21 0x01) (text "a;") short 15
-    ∷ refused (set P 21 0x01) (text "b") short 15
-    ∷ refused P (text "a;") short 18
-    ∷ refused P (text "a" ++ more "a" 32) short 19
-    ∷ refused P (text "b") short 20
-    ∷ refused (distance 14 5) (text "a;") three 18  -- the plan's own pattern has 65 states
-    ∷ refused (distance 14 5) (late 31) short 19  -- 19, 16 and 17: 66 items
-    ∷ refused (distance 14 5) (late 6 ++ text ";z") short 20  -- 20, 16 and 17
-    ∷ refused (distance 14 5) (late 5) short 16  -- 16 and 17
-    ∷ refused (distance 14 5) (text "a") short 17
-    ∷ refused P (text "a") short 17
+    refused (take 10 P) (text "a;") short TooShort  -- 1, 18 and 17
+    ∷ refused (take 16 P) (text "a;") short CutShort
+    ∷ refused (take 21 P) (text "a;") short ItemsCut
+    ∷ refused (take 21 P) (text "a" ++ more "a" 32) short ItemsCut  -- 10, 19 and 17
+    ∷ refused (take 21 P) (text "b") short ItemsCut  -- 10, 20 and 17
+    ∷ refused (set P 21 0x01) (text "a;") short Trailing
+    ∷ refused (set P 21 0x01) (text "b") short Trailing
+    ∷ refused P (text "a;") short Unreadable
+    ∷ refused P (text "a" ++ more "a" 32) short ManyItems
+    ∷ refused P (text "b") short StrangeLetter
+    ∷ refused (distance 14 5) (text "a;") three Unreadable  -- the plan's own pattern has 65 states
+    ∷ refused (distance 14 5) (late 31) short ManyItems  -- 19, 16 and 17: 66 items
+    ∷ refused (distance 14 5) (late 6 ++ text ";z") short StrangeLetter  -- 20, 16 and 17
+    ∷ refused (distance 14 5) (late 5) short ManyStates  -- 16 and 17
+    ∷ refused (distance 14 5) (text "a") short ShortRow
+    ∷ refused P (text "a") short ShortRow
     ∷ []
 
 -- order 4: no jobs, the alphabet and pattern of P
@@ -187,9 +189,9 @@ of_no_jobs =
     ∷ inconclusive recess (text "[]") three (counts 2 0 0 0 0 1) three
     ∷ inconclusive (set recess 5 0x02) (text "a|0") [] (counts 3 0 0 0 0 1) []  -- of kind none
     ∷ verified (set recess 5 0x02) (text "a") [] (counts 3 0 0 0 0 1) []
-    ∷ refused recess (text "a;") [] 18
-    ∷ refused recess (text "b") [] 20
-    ∷ refused (packed (head 0 1 0 0 0 0 1) ++ packed (one (1 ∷ []))) (text "a;") [] 5  -- jobs 0 with nodes, and 18
+    ∷ refused recess (text "a;") [] Unreadable
+    ∷ refused recess (text "b") [] StrangeLetter
+    ∷ refused (packed (head 0 1 0 0 0 0 1) ++ packed (one (1 ∷ []))) (text "a;") [] WrongSizes  -- jobs 0 with nodes, and 18
     ∷ []
 
 -- order 5: two jobs, the alphabet and pattern of P; the first goes 0 to 1 by event 1, and one of them stands
@@ -202,8 +204,8 @@ of_standing =
     verified (beside (service 2 0 0) (job 1 2 2)) (text "a|0") three (counts 3 0 1 4 44 3) (1 ∷ 2 ∷ 3 ∷ [])
     ∷ inconclusive (beside (service 2 0 0) (job 1 2 2)) (text "0") three (counts 2 0 1 4 67 3) (1 ∷ 2 ∷ 3 ∷ [])
     ∷ verified (beside (job 2 0 1) (service 1 2 2)) (text "a") three (counts 3 0 1 4 44 2) (1 ∷ 2 ∷ 3 ∷ [])
-    ∷ refused (beside (service 2 0 0) (service 1 2 2)) (text "a;") three 21  -- 21 and 18
-    ∷ refused (beside (service 2 0 1) (service 1 2 2)) (text "a") three 6  -- 6 and 21
+    ∷ refused (beside (service 2 0 0) (service 1 2 2)) (text "a;") three NoneEnds  -- 21 and 18
+    ∷ refused (beside (service 2 0 1) (service 1 2 2)) (text "a") three StrayEnd  -- 6 and 21
     ∷ []
 
 -- the table
@@ -218,7 +220,7 @@ abbrev said : TypedCase → Option Outcome
 said c = some (c.answer, c.after)
 
 answers : map found cases ≡ map said cases
-unfolding run letters past_letters stars listed items_of letters_of bits_of value_from field_at events_from events_at row plan_of first any_from owners_from total counts_outside push_all item_at read items_refusal states_of states build collect index positions.step watched_below digit gather_below table_of accepting_below positions.final positions.accepts padded each meetings_of edges_of ones pairs_of final_below rounded
+unfolding Option.bind run letters past_letters stars listed items_of letters_of bits_of value_from field_at events_from events_at row plan_of first any_from owners_from total counts_outside push_all item_at read items_refusal states_of states build collect index positions.step watched_below digit gather_below table_of accepting_below positions.final positions.accepts padded each meetings_of edges_of ones pairs_of final_below rounded
 answers = refl
 
 -- the outcomes of the table are what the judge of typed patterns promises

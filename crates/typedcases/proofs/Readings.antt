@@ -2,14 +2,14 @@
 use mathlib.Core.Path.{◌≡◌, refl, subst}
 use mathlib.Core.List.{List, [], ◌∷◌, ◌++◌, map, Memᴰ}
 use mathlib.Core.Option
-use mathlib.Core.Option.{Option, none, some, none-ne-some, some-injective}
+use mathlib.Core.Option.{Option, none, some, map-eq-some_iff}
 use Prim.Native.Nat.{ℕ}
 use Prim.Native.String.{String}
 use lib.ListN.{replicate}
 use Rattle.line.specs.Line.{text}
 use Rattle.plan.proofs.Cases.{agree}
 use Rattle.grammar.specs.Grammar.{Tree, empty_string, one_of, noneOf, followed, either, starred, Reading, opening, closing}
-use Rattle.grammar.specs.Ways.{Outcome, letters, past_letters, stars, choices, chain, tree_of}
+use Rattle.grammar.specs.Ways.{letters, past_letters, stars, choices, chain, tree_of}
 use Rattle.grammar.proofs.Evaluate.{run, evaluated}
 
 -- ---- an executable reading
@@ -19,11 +19,9 @@ abbrev pub read_within : (n : ℕ) → List ℕ → Option (Option Tree)
 read_within n w = Option.map tree_of (run n (chain choices) w)
 
 pub read_within_lem : (n : ℕ) (w : List ℕ) (t : Option Tree) → read_within n w ≡ some t → Reading w t
-read_within_lem n w t = go (run n (chain choices) w) refl
-  where
-    go : (o : Option Outcome) → run n (chain choices) w ≡ o → Option.map tree_of o ≡ some t → Reading w t
-    go none q e = absurd (none-ne-some t e)
-    go (some o) q e = subst (λ (u : Option Tree). Reading w u) (some-injective (tree_of o) t e) (evaluated n w o q)
+read_within_lem n w t e =
+    let made = (map-eq-some_iff tree_of (run n (chain choices) w)).0 e in
+    subst (λ (u : Option Tree). Reading w u) made.2 (evaluated n w made.0 made.1)
 
 -- ---- texts
 

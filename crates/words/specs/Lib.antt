@@ -1,2 +1,3 @@
 pub mod Words
 pub mod Lent
+pub mod Sides

@@ -1,2 +1,0 @@
--- Laws of the judge.
-pub mod Tables
