@@ -1,8 +1,11 @@
--- What the reader of a plan with its pattern hands on, where none of 1 to 15 and 21 applies. Assumes nothing.
-use mathlib.Core.Path.{◌≡◌, sym, subst, ap}
+-- What the answer of the reader of a plan with its pattern tells: a refusal of 1 to 15 or 21, or the tables of the plan. Assumes nothing.
+use mathlib.Core.Path.{◌≡◌, sym, subst, ap, ◌∙◌}
 use mathlib.Core.List.{List}
-use mathlib.Core.Option.{none}
+use mathlib.Core.Option.{none, some}
 use Prim.Native.Nat.{ℕ}
+use Rattle.std.specs.Prelude.{Result, Ok, Err, IfOk}
+use Rattle.refusals.specs.declared.Refusal.{Refusal}
+use Rattle.refusals.specs.Numbers.{number, refusal_of}
 use Rattle.sections.specs.Layout.{plan_of}
 use Rattle.plan.specs.Checks.{first}
 use Rattle.plan.proofs.Legality.{legal}
@@ -16,6 +19,18 @@ use Rattle.pattern.specs.Reading.{accepted}
 use Rattle.pattern.proofs.Part.{plan_postfix, before_items}
 use Rattle.analysis.specs.Analysis.{Reads}
 
+module _ (b : List ℕ) {r : Result PatternRead Refusal} where
+  module _ (told : refusal_of r ≡ first readable b) where
+    pub refused_by_reader : {e : Refusal} → r ≡ Err e → first readable b ≡ some (number e)
+    refused_by_reader was = sym told ∙ ap refusal_of was
+
+    pub passed_reader : {x : PatternRead} → r ≡ Ok x → none ≡ first readable b
+    passed_reader was = sym (ap refusal_of was) ∙ told
+
+  pub all_read : IfOk r (λ x. x ≡ accepted b) → {x : PatternRead} → r ≡ Ok x → x ≡ accepted b
+  all_read told was = subst (λ (y : Result PatternRead Refusal). IfOk y (λ x. x ≡ accepted b)) was told
+
+-- where none of them applies
 module _ (b : List ℕ) (passed : none ≡ first readable b) {x : PatternRead} (told : x ≡ accepted b) where
   -- the tables and the words are those of the plan
   pub plan_read : (before words : List ℕ) → WordsOf b before words → Reads (plan_of b) x.reading words

@@ -1,19 +1,10 @@
--- The items as numbers, and how the code keeps the first items.
-use Rattle.std.specs.Prelude.{◌≡◌, List, map, ℕ, Result, Ok}
+-- How the code keeps the first items.
+use Rattle.std.specs.Prelude.{◌≡◌, Result, Ok}
 use Rattle.std.proofs.Math.Option.{some}
 use Rattle.refusals.specs.declared.Refusal.{Refusal}
 use Rattle.refusals.specs.Numbers.{refusal_of}
-use Rattle.expressions.specs.declared.Item.{Item}
-use Rattle.item.specs.Found.{kind_of, set_of}
 use Rattle.items.specs.declared.Scan.{Scan}
 use Rattle.items.specs.Refusals.{Read, faulty, up_to, depth}
-
--- the kinds and the sets of items, as numbers
-abbrev pub kinds : List Item → List ℕ
-kinds l = map kind_of l
-
-abbrev pub sets : List Item → List ℕ
-sets l = map set_of l
 
 -- the refusal of the first faulty one, or where the reader stands behind them
 abbrev pub Scanned : Read → Result Scan Refusal → Type 0

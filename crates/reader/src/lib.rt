@@ -32,7 +32,7 @@ fn own(owner: &mut [u8; 256], at: usize, size: usize, job: u8)
     owner[at..at + size].fill(job);
 }
 
-// The job of each node. Public for the judge.
+// The job of each node.
 pub fn owners_of(jobs: Jobs) -> [u8; 256]
     requires { (jobs.count ≤ 16) × (total (sizes (jobs_in jobs)) ≤ 256) }
     ensures { result ≡ padded 256 (owners (jobs_in jobs)) }
@@ -47,7 +47,7 @@ pub fn owners_of(jobs: Jobs) -> [u8; 256]
     owner
 }
 
-// The reading of a plan that passed refusals 1 to 4. Its arcs go into the words. Public for the judge.
+// The reading of a plan that passed refusals 1 to 4. Its arcs go into the words.
 pub fn read_sections(plan: &[u8], words: &mut [u32; 512]) -> Result<Reading, Refusal>
     requires { (first framing plan.now ≡ none) × (length words.old ≡ 512) }
     ensures refusal { refusal_of result ≡ first shape (plan_of plan.now) }

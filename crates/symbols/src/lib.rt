@@ -55,7 +55,7 @@ fn bracketed_from(text: &[u8], at: usize, alphabet: u32) -> u32
 }
 
 // The item that begins at the place `at`, the empty string where none begins.
-fn item_from(text: &[u8], at: usize, alphabet: u32) -> Item
+pub fn item_from(text: &[u8], at: usize, alphabet: u32) -> Item
     ensures { result ≡ item_from alphabet (drop at text.now) }
 {
     match text.get(at) {
