@@ -18,11 +18,24 @@ fn is_cut(rest: &[u8], n: usize) -> bool
     rest.len() < (n + 7) / 8
 }
 
-// How many bits an item has.
-pub fn width_of(item: Item) -> usize
-    ensures { result ≡ width (kind_of item) }
+// How many bits an item of a kind has. Any number may be asked.
+pub fn width_of(kind: usize) -> usize
+    ensures { result ≡ width kind }
 {
-    if let Item::Events(_) = item { 34 } else { 3 }
+    if kind == 1 { 34 } else { 3 }
+}
+
+// The kind of an item, as a number.
+pub fn kind_of(item: Item) -> u8
+    ensures { result ≡ kind_of item }
+{
+    match item {
+        Item::Empty => 0,
+        Item::Events(_) => 1,
+        Item::Sequence => 2,
+        Item::Choice => 3,
+        Item::Repeat => 4,
+    }
 }
 
 // Whether an event of the set is none of the alphabet.

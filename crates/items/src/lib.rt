@@ -1,8 +1,10 @@
 // The reader of the items of a pattern: the refusals 10 to 15, or the items.
 #![tactic(auto)]
 
-ghost use Rattle.std.specs.Prelude.{◌≡◌, ◌≤◌, IfOk};
+ghost use Rattle.std.specs.Prelude.{◌≡◌, ℕ, ◌≤◌, IfOk};
+ghost use Rattle.rows.specs.Rows.{row, place};
 ghost use Rattle.refusals.specs.Numbers.{refusal_of};
+ghost use Rattle.item.specs.Faults.{item_of};
 ghost use Rattle.items.specs.Refusals.{read, items_in, items_refusal};
 ghost use Rattle.items.specs.Tables.{Scanned};
 
@@ -31,7 +33,8 @@ fn scan_items(rest: &[u8], alphabet: u32, count: usize) -> Result<Scan, Refusal>
     let mut depth: usize = 0;
     for _ in 0..count {
         let item = item::item_at(rest, alphabet, at, depth)?;
-        at += item::width_of(item);
+        let kind = item::kind_of(item);
+        at += item::width_of(usize::from(kind));
         depth = depth + 1 - item.arity();
         items.push(item);
     }
@@ -57,4 +60,29 @@ pub fn read_items(rest: &[u8], alphabet: u32, count: usize) -> Result<Items, Ref
         return Err(Refusal::Trailing);
     }
     Ok(s.items)
+}
+
+// The item of a kind, with the set where the kind has one. A kind of 4 or more is a star.
+fn item_of(kind: u8, set: u32) -> Item
+    ensures { result ≡ item_of kind set }
+{
+    match kind {
+        0 => Item::Empty,
+        1 => Item::Events(set),
+        2 => Item::Sequence,
+        3 => Item::Choice,
+        _ => Item::Repeat,
+    }
+}
+
+// The items that two arrays list as C has them, a kind and a set for each. What stands behind the last of them is not read.
+pub fn listed(count: usize, kinds: &[u8; 64], sets: &[u32; 64]) -> Items
+    requires { count ≤ 64 }
+    ensures { result.items ≡ row count (λ (i : ℕ). item_of (place kinds.now i) (place sets.now i)) }
+{
+    let mut items = Items::new();
+    for i in 0..count {
+        items.push(item_of(kinds[i], sets[i]));
+    }
+    items
 }

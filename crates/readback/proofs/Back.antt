@@ -1,12 +1,12 @@
 -- Nothing is lost: what the arrays hold tells the plan and its items. Assumes nothing.
-use mathlib.Core.Path.{◌≡◌, refl, ap, ap₂, ◌∙◌}
+use mathlib.Core.Path.{◌≡◌, refl, sym, ap, ap₂, ◌∙◌}
 use mathlib.Core.List.Memᴰ
 use mathlib.Core.List.{List, Memᴰ}
 use Prim.Native.Nat.{ℕ, ◌+◌, ◌<◌, ◌≤◌}
 use native.Mathlib.Omega.{arith}
-use lib.ListN.{length, get_or}
-use Rattle.rows.specs.Rows.{row, place}
-use Rattle.rows.proofs.Rows.{column_at, row_at, row_ext, row_places}
+use lib.ListN.{length, get_or, take}
+use Rattle.rows.specs.Rows.{row, padded, place}
+use Rattle.rows.proofs.Rows.{row_length, row_take, column_at, row_at, row_ext, row_places}
 use Rattle.rows.proofs.Members.{at_each}
 use Rattle.sections.specs.declared.Kind.{Kind}
 use Rattle.sections.specs.declared.Kind.TheVariants.{Every, None}
@@ -18,11 +18,13 @@ use Rattle.plan.specs.Legal.{Legal}
 use Rattle.plan.specs.Refusals.{arcs, links}
 use Rattle.expressions.specs.declared.Item.{Item}
 use Rattle.expressions.specs.declared.Item.TheVariants.{Empty as empty, Events as events, Sequence as sequence, Choice as choice, Repeat as repeat}
+use Rattle.expressions.specs.Items.{arity, operands}
 use Rattle.item.specs.Faults.{item_of}
 use Rattle.item.specs.Found.{kind_of, set_of}
+use Rattle.items.specs.Postfix.{Postfix}
 use Rattle.words.specs.Words.{unpacked, arcs_on, arc_on}
 use Rattle.words.proofs.Words.{unpack_word}
-use Rattle.readback.specs.Tables.{kind_number, word, word_at, Tables, tables_of}
+use Rattle.readback.specs.Tables.{kind_number, word, word_at, kinds_of, sets_of, Tables, tables_of}
 use Rattle.readback.proofs.Arcs.{step_at, call_at, accept_at}
 
 -- the plan that arrays tell, and the items of its pattern, of which there are so many
@@ -96,7 +98,8 @@ module _ (p : Plan) (legal : Legal p) where
     accepts = accepts_told i;
   }
 
--- and its items
+-- ---- items in two arrays
+
 item_back : (x : Item) → item_of (kind_of x) (set_of x) ≡ x
 item_back empty = refl
 item_back (events m) = refl
@@ -104,8 +107,27 @@ item_back sequence = refl
 item_back choice = refl
 item_back repeat = refl
 
-pub items_told_lem : (p : Plan) (l : List Item) → items_told (tables_of p l) (length l) ≡ l
-items_told_lem p l =
+-- items that are listed in two arrays, and taken back as `items::listed` takes them, are the same
+pub listed_back : (l : List Item) → row (length l) (λ i. item_of (place (padded 64 (kinds_of l)) i) (place (padded 64 (sets_of l)) i)) ≡ l
+listed_back l =
     row_ext _ (λ i. get_or l i empty) (length l)
     (λ i h. ap₂ item_of (column_at 64 kind_of empty refl l i) (column_at 64 set_of empty refl l i) ∙ item_back (get_or l i empty))
     ∙ row_places empty l
+
+-- and what `items::listed` takes is in postfix form where the arrays say so place by place
+pub listed_postfix : (item : ℕ → Item) (count : ℕ) → count ≤ 64 → ((i : ℕ) → i < count → arity (item i) ≤ length (operands (row i item)))
+    → length (operands (row count item)) ≡ 1 → Postfix (row count item)
+listed_postfix item count few enough one = record {
+  few = rw (row_length item count) few;
+  enough = λ i h. let k : i < count = omega (arith, h, row_length item count) in rw (row_at item count i empty k, before i k) (enough i k);
+  one = one;
+}
+  where
+    before : (i : ℕ) → i < count → take i (row count item) ≡ row i item
+    before i k =
+        sym (row_take empty (row count item) i (omega (arith, k, row_length item count)))
+        ∙ row_ext (λ j. get_or (row count item) j empty) item i (λ j l. row_at item count j empty (omega arith))
+
+-- so the arrays of a plan tell its items
+pub items_told_lem : (p : Plan) (l : List Item) → items_told (tables_of p l) (length l) ≡ l
+items_told_lem p l = listed_back l

@@ -4,7 +4,7 @@
 ghost use Rattle.std.specs.Prelude.{◌≡◌, ◌≤◌, length};
 ghost use Rattle.rows.specs.Rows.{row, padded, place};
 ghost use Rattle.expressions.specs.Items.{pattern_of};
-ghost use Rattle.item.specs.Found.{kind_of, set_of};
+ghost use Rattle.item.specs.Found.{set_of};
 ghost use Rattle.items.specs.Postfix.{Postfix};
 ghost use Rattle.plan.specs.Checks.{first};
 ghost use Rattle.refusals.specs.Numbers.{refusal_of};
@@ -41,25 +41,12 @@ fn list_items(items: &Items, kinds: &mut [u8; 64], sets: &mut [u32; 64])
     *kinds = [0; 64];
     *sets = [0; 64];
     for (i, item) in items.iter().enumerate() {
-        kinds[i] = kind_of(*item);
+        kinds[i] = item::kind_of(*item);
         sets[i] = set_of(*item);
     }
 }
 
-// The kind of an item, as a number.
-fn kind_of(item: Item) -> u8
-    ensures { result ≡ kind_of item }
-{
-    match item {
-        Item::Empty => 0,
-        Item::Events(_) => 1,
-        Item::Sequence => 2,
-        Item::Choice => 3,
-        Item::Repeat => 4,
-    }
-}
-
-// Its set, empty where its kind has none.
+// The set of an item, empty where its kind has none.
 fn set_of(item: Item) -> u32
     ensures { result ≡ set_of item }
 {

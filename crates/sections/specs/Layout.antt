@@ -14,7 +14,7 @@ head_of b = record {
   calls = field_at b 23 8;
   accepts = field_at b 31 8;
   channels = field_at b 39 7;
-  kind = kind_of (field_at b 46 1);
+  kind = field_at b 46 1;
   items = field_at b 47 7;
 }
 
@@ -71,7 +71,7 @@ channels_of b h = row h.channels (λ i. field_at b (channels_at h + 5 * i) 5)
 abbrev pub plan_under : List ℕ → Head → Plan
 plan_under b h = record {
   nodes = h.nodes;
-  kind = h.kind;
+  kind = kind_of h.kind;
   items = h.items;
   alphabet = events_at b alphabet_at;
   jobs = jobs_of b h;

@@ -2,7 +2,6 @@
 #![tactic(auto)]
 
 ghost use Rattle.std.specs.Prelude.{◌≡◌, ◌≤◌, length};
-ghost use Rattle.sections.specs.Plan.{kind_of};
 ghost use Rattle.sections.specs.Layout.{head_of, end_at};
 
 // What a plan claims of its complete runs.
@@ -21,7 +20,7 @@ pub struct Head {
     pub calls: usize,
     pub accepts: usize,
     pub channels: usize,
-    pub kind: Kind,
+    pub kind: usize,
     pub items: usize,
 }
 
@@ -56,13 +55,6 @@ pub struct Decoded {
     pub accepts: usize,
 }
 
-// The kind that a bit says.
-fn kind_of(bit: usize) -> Kind
-    ensures { result ≡ kind_of bit }
-{
-    if bit == 0 { Kind::Every } else { Kind::None }
-}
-
 // The head, 54 bits.
 pub fn read_head(plan: &[u8]) -> Head
     requires { 7 ≤ length plan.now }
@@ -75,7 +67,7 @@ pub fn read_head(plan: &[u8]) -> Head
         calls: fields::field(plan, 23, 8),
         accepts: fields::field(plan, 31, 8),
         channels: fields::field(plan, 39, 7),
-        kind: kind_of(fields::field(plan, 46, 1)),
+        kind: fields::field(plan, 46, 1),
         items: fields::field(plan, 47, 7),
     }
 }

@@ -8,11 +8,12 @@ use lib.ListN.{length}
 use Rattle.fields.specs.Bits.{field_at, events_at}
 use Rattle.fields.proofs.Laws.{field_front, field_back, field_within, shifted}
 use Rattle.sections.specs.Layout.{alphabet_at, arc_at, jobs_of, steps_at, channels_of, calls_at, accepts_at, plan_under}
+use Rattle.sections.specs.declared.Kind.{Kind}
 use Rattle.sections.specs.declared.Head.{Head}
 use Rattle.sections.specs.declared.Jobs.{Jobs}
 use Rattle.sections.specs.declared.Channels.{Channels}
 use Rattle.sections.specs.declared.Decoded.{Decoded}
-use Rattle.sections.specs.Plan.{Job}
+use Rattle.sections.specs.Plan.{Job, kind_of}
 use Rattle.rows.specs.Rows.{row, padded}
 use Rattle.rows.proofs.Rows.{row_length}
 use Rattle.sections.specs.Tables.{sizes, entries, exits, standings, job_table, channel_table, decoded_of}
@@ -45,16 +46,16 @@ pub jobs_read : (f : ℕ → Job) (i n : ℕ) → i ≡ n → (size entry exit s
     → ◌≡◌ {A = Jobs} (record { size = size; entry = entry; exit = exit; standing = standing; count = n }) (job_table (row n f))
 jobs_read f i n e size entry exit standing p q r t = cc (row_length f n)
 
-pub sections_read : (b : List ℕ) (h : Head) (alphabet : ℕ) (jobs : Jobs) (channels : Channels)
-    → alphabet ≡ events_at b alphabet_at → jobs ≡ job_table (jobs_of b h) → channels ≡ channel_table (channels_of b h)
-    → ◌≡◌ {A = Decoded} (record { nodes = h.nodes; kind = h.kind; items = h.items; alphabet = alphabet; jobs = jobs; steps = h.steps; channels = channels; calls = h.calls; accepts = h.accepts }) (decoded_of (plan_under b h))
-sections_read b h alphabet jobs channels q r t =
+pub sections_read : (b : List ℕ) (h : Head) (kind : Kind) (alphabet : ℕ) (jobs : Jobs) (channels : Channels)
+    → kind ≡ kind_of h.kind → alphabet ≡ events_at b alphabet_at → jobs ≡ job_table (jobs_of b h) → channels ≡ channel_table (channels_of b h)
+    → ◌≡◌ {A = Decoded} (record { nodes = h.nodes; kind = kind; items = h.items; alphabet = alphabet; jobs = jobs; steps = h.steps; channels = channels; calls = h.calls; accepts = h.accepts }) (decoded_of (plan_under b h))
+sections_read b h kind alphabet jobs channels p q r t =
     let steps = row_length (λ (i : ℕ). arc_at b 5 (steps_at h + 21 * i)) h.steps in
     let calls = row_length (λ (i : ℕ). arc_at b 6 (calls_at h + 22 * i)) h.calls in
     let accepts = row_length (λ (i : ℕ). arc_at b 6 (accepts_at h + 22 * i)) h.accepts in
     λ i. record {
       nodes = h.nodes;
-      kind = h.kind;
+      kind = p i;
       items = h.items;
       alphabet = q i;
       jobs = r i;

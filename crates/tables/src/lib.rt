@@ -4,11 +4,18 @@
 ghost use Rattle.std.specs.Prelude.{◌≡◌, ℕ, ◌+◌, ◌*◌, ◌≤◌, length};
 ghost use Rattle.fields.specs.Bits.{field_at};
 ghost use Rattle.rows.specs.Rows.{row};
+ghost use Rattle.sections.specs.Plan.{kind_of};
 ghost use Rattle.sections.specs.Layout.{job_bits, job_at, arc_at, plan_under, Readable};
 ghost use Rattle.sections.specs.Tables.{job_table, channel_table, decoded_of};
 ghost use Rattle.words.specs.Words.{Packed, Worded};
 
-use sections::{Channels, Decoded, Head, Jobs};
+use sections::{Channels, Decoded, Head, Jobs, Kind};
+
+fn kind_of(bit: usize) -> Kind
+    ensures { result ≡ kind_of bit }
+{
+    if bit == 0 { Kind::Every } else { Kind::None }
+}
 
 // The jobs that stand from place `at` on.
 fn read_jobs(plan: &[u8], at: usize, count: usize) -> Jobs
@@ -82,7 +89,7 @@ pub fn decode(plan: &[u8], h: Head, words: &mut [u32; 512]) -> Decoded
     read_arcs(plan, 6, accepts_at, h.accepts, words, 384);
     Decoded {
         nodes: h.nodes,
-        kind: h.kind,
+        kind: kind_of(h.kind),
         items: h.items,
         alphabet: fields::events(plan, 54),
         jobs: read_jobs(plan, 85, h.jobs),

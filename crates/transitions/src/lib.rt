@@ -1,11 +1,11 @@
 // The table of moves of a numbered automaton: 64 rows by 32 events.
 #![tactic(auto)]
 
-ghost use Rattle.std.specs.Prelude.{◌≡◌, ◌<◌, ◌≤◌, length, replicate};
+ghost use Rattle.std.specs.Prelude.{◌≡◌, ℕ, ◌<◌, ◌≤◌, length, replicate};
 ghost use Rattle.rows.specs.Rows.{row as row_of};
 ghost use Rattle.expressions.specs.Expression.{Expression};
 ghost use Rattle.automaton.specs.Automaton.{state_at, moved, table_of};
-ghost use Rattle.automaton.specs.Tables.{Of, Known, Apart};
+ghost use Rattle.automaton.specs.Tables.{Of, Known, Apart, with_last};
 ghost use Rattle.automaton.specs.Search.{Moves, FirstAt};
 
 use positions::Positions;
@@ -48,10 +48,10 @@ fn fill_row(
     }
 }
 
-// The table of moves. Past the last state each row has its own number. The empty set is looked for once.
+// The table of moves of positions, whatever their last ones are. Past the last state each row has its own number. The empty set is looked for once.
 pub fn moves_of(positions: &Positions, alphabet: u32, sets: &[u64]) -> [[u8; 32]; 64]
-    requires { (length sets.now ≤ 64) × Apart sets.now × Known positions.now }
-    ensures { (r : Expression) → Of r positions.now → result ≡ table_of r alphabet sets.now }
+    requires { (length sets.now ≤ 64) × Apart sets.now × ((last : ℕ) × Known (with_last last positions.now)) }
+    ensures { (r : Expression) (last : ℕ) → Of r (with_last last positions.now) → result ≡ table_of r alphabet sets.now }
 {
     let mut moves = [[0u8; 32]; 64];
     let none = automaton::find(sets, 0);

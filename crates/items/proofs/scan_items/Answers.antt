@@ -49,7 +49,7 @@ returns-in_err-item c =
     rw (← rest, faulty_later b c.args.alphabet (i + 1) (c.args.count - (i + 1)) _ refused, p.1, p.2) refl
 
 pub overflow_add-at : goal.overflow_add-at
-overflow_add-at c = omega (arith, bounds (goal.at.overflow_add-at c).In-loop, c.width_of-at.ensures, width_item (kind_of c.in_ok-item.item))
+overflow_add-at c = omega (arith, bounds (goal.at.overflow_add-at c).In-loop, c.width_of-at.ensures, width_item c.from.result)
 
 pub overflow_add-depth : goal.overflow_add-depth
 overflow_add-depth c = omega (arith, bounds (goal.at.overflow_add-depth c).In-loop)
@@ -68,7 +68,7 @@ loop-preserved c =
     let s = spot (goal.at.loop-preserved c).In-loop in
     let none_found = fine (goal.at.loop-preserved c).In_ok-item in
     let item = c.in_ok-item.ensures.item in
-    let wide = c.width_of-at.ensures ∙ ap (λ (i : Item). width (kind_of i)) item ∙ ap width (kind_found b c.args.alphabet s none_found) in
+    let wide = c.width_of-at.ensures ∙ ap width (c.from.ensures ∙ c.kind_of-kind.ensures) ∙ ap (λ (i : Item). width (kind_of i)) item ∙ ap width (kind_found b c.args.alphabet s none_found) in
     let more = c.push.ensures.items ∙ ap (λ (i : Item). c.loop.items.items ++ (i ∷ [])) item in (
       read_next b c.args.alphabet c.loop.counter s c.loop.invariant.0 (sym none_found) ∙ sym (λ i. up_to (record { at = c.loop.at + wide i; items = more i })),
       rw more (omega (arith, depth_past b c.args.alphabet s none_found, c.arity.ensures, ap arity item, c.loop.invariant.1)),

@@ -26,7 +26,7 @@ positions : (c : In-Some) → Of (pattern c) c.positions_of-positions.result
 positions c = record { few = pattern_few c.args.items.now.items c.requires; table = c.positions_of-positions.ensures }
 
 listing : (c : In-Some) → some c.in-Some.sets.items ≡ states_of (pattern c) c.args.alphabet
-listing c = c.in-Some.ensures (pattern c) (positions c)
+listing c = c.in-Some.ensures (pattern c) _ (positions c)
 
 few : (c : In-Some) → length c.in-Some.sets.items ≤ 64
 few c = (states_some (pattern c) c.args.alphabet c.in-Some.sets.items (sym (listing c))).1
@@ -35,12 +35,12 @@ apart : (c : In-Some) → Apart c.in-Some.sets.items
 apart c = states_apart (pattern c) c.args.alphabet c.in-Some.sets.items (sym (listing c))
 
 pub states_of-requires : goal.states_of-requires
-states_of-requires c = (_, of (goal.at.states_of-requires c).After-positions_of-positions)
+states_of-requires c = (_, (_, of (goal.at.states_of-requires c).After-positions_of-positions))
 
 pub returns-in_default : goal.returns-in_default
 returns-in_default c =
     let r = pattern_of c.args.items.now.items in
-    let over = c.in_default.ensures r (of (goal.at.returns-in_default c).After-positions_of-positions) in
+    let over = c.in_default.ensures r _ (of (goal.at.returns-in_default c).After-positions_of-positions) in
     let before = property c.args.values.now c.args.states.now c.args.moves.now in
     (ap limit_of over, ap (λ (o : Option (List ℕ)). property_with r c.args.alphabet o before) over)
 
@@ -53,7 +53,7 @@ list_states-requires c = rw c.deref-2.ensures.0 (few (goal.at.list_states-requir
 pub moves_of-requires : goal.moves_of-requires
 moves_of-requires c =
     let s = (goal.at.moves_of-requires c).In-Some in
-    (rw c.deref-3.ensures.0 (few s), subst Apart (sym c.deref-3.ensures.0) (apart s), (_, positions s))
+    (rw c.deref-3.ensures.0 (few s), subst Apart (sym c.deref-3.ensures.0) (apart s), (_, (_, positions s)))
 
 pub returns : goal.returns
 returns c =
@@ -63,7 +63,7 @@ returns c =
     let ends = ap (λ (p : Positions). p.last) (positions s).table in
     let accepts = c.accepting_of-accepting.ensures r ends ∙ ap (accepting r) c.deref.ensures.0 in
     let states = c.list_states.ensures ∙ ap (λ (l : List ℕ). row 64 (place l)) c.deref-2.ensures.0 in
-    let moves = c.moves_of.ensures r (positions s) ∙ ap (table_of r c.args.alphabet) c.deref-3.ensures.0 in
+    let moves = c.moves_of.ensures r _ (positions s) ∙ ap (table_of r c.args.alphabet) c.deref-3.ensures.0 in
     let before = property c.args.values.now c.args.states.now c.args.moves.now in (
       ap limit_of (listing s),
       (λ i. property (c.len.ensures.value i ∷ accepts i ∷ []) (states i) (moves i))

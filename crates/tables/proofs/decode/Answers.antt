@@ -9,6 +9,6 @@ pub returns : goal.returns
 returns c =
     let a = c.args in
     let h = c.requires.0 in (
-      sections_read a.plan.now a.h _ _ _ c.events.ensures c.read_jobs.ensures c.read_channels.ensures,
+      sections_read a.plan.now a.h _ _ _ _ c.kind_of.ensures c.events.ensures c.read_jobs.ensures c.read_channels.ensures,
       rows_worded (plan_under a.plan.now a.h) _ _ _ _ _ _ refl refl refl h.steps h.calls c.read_arcs.ensures c.read_arcs-2.ensures c.read_arcs-3.ensures,
     )
