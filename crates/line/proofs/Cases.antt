@@ -8,7 +8,7 @@ use Rattle.std.specs.Prelude.{Ok, Err}
 use Rattle.refusals.specs.declared.Refusal.TheVariants.{TooShort, WrongSizes, ItemsCut, ShortRow}
 use Rattle.verdict.specs.declared.Verdict.TheVariants.{Verified, Inconclusive}
 use Rattle.verdict.specs.Answer.{Answer}
-use Rattle.line.specs.Line.{text, decimal_within, line_of}
+use Rattle.line.specs.Line.{text, decimal_within, line_by, line_of}
 
 -- states, meetings, ordering, pairs, fill, and the final set
 abbrev counts : ℕ → ℕ → ℕ → ℕ → ℕ → ℕ → Counts
@@ -38,5 +38,17 @@ cases =
     ∷ []
 
 pub lines : map (λ (c : Case). line_of c.0) cases ≡ map (λ (c : Case). text c.1) cases
-unfolding line_of decimal_within
+unfolding line_by decimal_within
 lines = refl
+
+-- a bare number, and the line of an answer that is refused by it
+abbrev Number : Type 0
+Number = ℕ × String
+
+abbrev numbers : List Number
+numbers =
+    (0, "refused 0\n") ∷ (21, "refused 21\n") ∷ (22, "refused 22\n") ∷ (1000, "refused 1000\n") ∷ (2 ^ 32 - 1, "refused 4294967295\n") ∷ []
+
+pub refused_lines : map (λ (n : Number). line_by (λ (k : ℕ). k) (Err n.0)) numbers ≡ map (λ (n : Number). text n.1) numbers
+unfolding line_by decimal_within
+refused_lines = refl

@@ -1,10 +1,11 @@
 -- The line that tells an answer, in bytes. Document 01, "The pattern part and the program".
-use Rattle.std.specs.Prelude.{cond, List, [], ◌∷◌, ◌++◌, ℕ, zero, suc, ◌/◌, ◌%◌, ltb, Ok, Err}
+use Rattle.std.specs.Prelude.{cond, List, [], ◌∷◌, ◌++◌, ℕ, zero, suc, ◌/◌, ◌%◌, ltb, Result, Ok, Err}
 use Prim.Native.Char.{code}
 use Prim.Native.String.{String, [] as end, ◌∷◌ as ◌then◌}
 use Rattle.io.specs.Digits.{hex_digit_ascii, last_digits}
 use Rattle.verdict.specs.declared.Counts.{Counts}
 use Rattle.refusals.specs.Numbers.{number}
+use Rattle.verdict.specs.declared.Verdict.{Verdict}
 use Rattle.verdict.specs.declared.Verdict.TheVariants.{Verified, Inconclusive}
 use Rattle.verdict.specs.Answer.{Answer}
 
@@ -36,12 +37,20 @@ fields c =
     ++ text " fill " ++ decimal c.fill
     ++ text " final " ++ hexadecimal c.ends
 
--- "verdict (`verified` or `inconclusive`)", then the fields; "A refusal prints `refused 5`, with its number."
-abbrev pub answer_text : Answer → List ℕ
-answer_text (Err r) = text "refused " ++ decimal (number r)
-answer_text (Ok (Verified c)) = text "verified" ++ fields c
-answer_text (Ok (Inconclusive c)) = text "inconclusive" ++ fields c
+-- "verdict (`verified` or `inconclusive`)", then the fields; "A refusal prints `refused 5`, with its number.", by the numbering of refusals
+-- that is handed over
+abbrev pub answer_text_by : {R : Type 0} → (R → ℕ) → Result Verdict R → List ℕ
+answer_text_by numbering (Err r) = text "refused " ++ decimal (numbering r)
+answer_text_by numbering (Ok (Verified c)) = text "verified" ++ fields c
+answer_text_by numbering (Ok (Inconclusive c)) = text "inconclusive" ++ fields c
 
 -- "prints one line": it ends with one line feed
-unfoldable pub line_of : Answer → List ℕ
-line_of a = answer_text a ++ text "\n"
+unfoldable pub line_by : {R : Type 0} → (R → ℕ) → Result Verdict R → List ℕ
+line_by numbering a = answer_text_by numbering a ++ text "\n"
+
+-- of an answer
+abbrev pub answer_text : Answer → List ℕ
+answer_text a = answer_text_by number a
+
+abbrev pub line_of : Answer → List ℕ
+line_of a = line_by number a

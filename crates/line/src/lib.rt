@@ -3,10 +3,10 @@
 
 ghost use Rattle.std.specs.Prelude.{◌≡◌, ◌++◌, ◌+◌, ◌≤◌, ◌<◌, length};
 ghost use Rattle.arrayvec.specs.ArrayVec.{array_vec_len};
-ghost use Rattle.line.specs.Line.{decimal, hexadecimal, fields, line_of};
+ghost use Rattle.line.specs.Line.{decimal, hexadecimal, fields, line_by};
 
 use arrayvec::ArrayVec;
-use verdict::{Answer, Counts, Verdict};
+use verdict::{Counts, Numbered, Verdict};
 
 // The bytes of a line, in fixed memory.
 pub type Line = ArrayVec<u8, 128>;
@@ -55,12 +55,12 @@ fn add_fields(line: &mut Line, c: Counts)
 }
 
 // The line that tells an answer.
-pub fn line_of(a: Answer) -> Line
-    ensures { (result.items ≡ line_of a) × (array_vec_len result ≤ 128) }
+pub fn line_of<R: Numbered>(a: Result<Verdict, R>) -> Line
+    ensures { (result.items ≡ line_by R.numbering a) × (array_vec_len result ≤ 128) }
 {
     let mut line = Line::new();
     match a {
-        Err(refusal) => add_count(&mut line, b"refused ", u32::from(refusal)),
+        Err(refusal) => add_count(&mut line, b"refused ", refusal.number()),
         Ok(Verdict::Verified(c)) => {
             add_text(&mut line, b"verified");
             add_fields(&mut line, c);
