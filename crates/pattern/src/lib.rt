@@ -2,11 +2,15 @@
 #![tactic(auto)]
 
 ghost use Rattle.std.specs.Prelude.{◌≡◌, not, length, IfOk};
+ghost use Rattle.std.proofs.Math.Option.{none};
+ghost use Rattle.sections.specs.Layout.{plan_of};
 ghost use Rattle.expressions.specs.Items.{pattern_of};
 ghost use Rattle.items.specs.Postfix.{Postfix};
 ghost use Rattle.automaton.specs.Automaton.{states_of};
+ghost use Rattle.words.specs.Words.{Worded};
 ghost use Rattle.reader.specs.Reading.{WordsOf};
 ghost use Rattle.plan.specs.Checks.{first};
+ghost use Rattle.plan.specs.Refusals.{framing};
 ghost use Rattle.refusals.specs.Numbers.{refusal_of};
 ghost use Rattle.pattern.specs.Refusals.{over_limit, readable, PartOf};
 ghost use Rattle.pattern.specs.Reading.{accepted};
@@ -30,7 +34,18 @@ pub fn read_pattern(plan: &[u8], words: &mut [u32; 512]) -> Result<PatternRead, 
     ensures plan { IfOk result (λ read. read ≡ accepted plan.now) }
     ensures words { WordsOf plan.now words.old words.new }
 {
-    let reading = reader::read_plan(plan, words)?;
+    plan::framed(plan)?;
+    read_framed(plan, words)
+}
+
+// The same of a plan that passed refusals 1 to 4: the first refusal of 5 to 15 and 21 that applies, and its arcs go into the words whatever comes.
+pub fn read_framed(plan: &[u8], words: &mut [u32; 512]) -> Result<PatternRead, Refusal>
+    requires { (first framing plan.now ≡ none) × (length words.old ≡ 512) }
+    ensures refusal { refusal_of result ≡ first readable plan.now }
+    ensures plan { IfOk result (λ read. read ≡ accepted plan.now) }
+    ensures words { Worded (plan_of plan.now) words.old words.new }
+{
+    let reading = reader::read_sections(plan, words)?;
     let at = reading.pattern;
     let items = items::read_items(&plan[at..], reading.plan.alphabet, reading.plan.items)?;
     Ok(PatternRead { reading, items })

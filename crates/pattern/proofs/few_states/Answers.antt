@@ -20,9 +20,9 @@ within_limit None = refl
 within_limit (Some sets) = refl
 
 pub states_of-requires : goal.states_of-requires
-states_of-requires c = (_, of (goal.at.states_of-requires c).After-positions_of-positions)
+states_of-requires c = (_, (_, of (goal.at.states_of-requires c).After-positions_of-positions))
 
 pub returns : goal.returns
 returns c =
     c.is_some.ensures ∙ within_limit c.states_of.result
-    ∙ ap (λ o. not (over_limit o)) (c.states_of.ensures (pattern_of c.args.items.now.items) (of (goal.at.returns c).After-positions_of-positions))
+    ∙ ap (λ o. not (over_limit o)) (c.states_of.ensures (pattern_of c.args.items.now.items) _ (of (goal.at.returns c).After-positions_of-positions))

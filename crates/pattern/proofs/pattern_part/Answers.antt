@@ -41,7 +41,7 @@ pub few_states-requires : goal.few_states-requires
 few_states-requires c = subst (λ (r : PatternRead). Postfix r.items.items) (sym c.in-Ok.ensures.plan) (plan_postfix c.args.plan.now (sym c.in-Ok.ensures.refusal))
 
 pub slice_bounds-result-count-then-few_states : goal.slice_bounds-result-count-then-few_states
-slice_bounds-result-count-then-few_states c = starts (goal.at.slice_bounds-result-count-then-few_states c).In-Ok
+slice_bounds-result-count-then-few_states c = omega (arith, starts (goal.at.slice_bounds-result-count-then-few_states c).In-Ok)
 
 pub slice_bounds-result-start-then-few_states : goal.slice_bounds-result-start-then-few_states
 slice_bounds-result-start-then-few_states c = search (rules, starts (goal.at.slice_bounds-result-start-then-few_states c).In-Ok)
