@@ -1,5 +1,6 @@
--- `first_of` goes through refusals 6, 21, and 7 to 9 in their order.
-use Rattle.std.proofs.Common.{◌≡◌, ◌∙◌, ℕ, List, Bool, false, ◌||◌, sym}
+-- `first_of` goes through refusals 6, 21, and 7 to 9 in their order. What was asked is read from the tests by `grind`, however they are written.
+use Rattle.std.proofs.Common.{◌≡◌, ◌∙◌, ℕ, List, Bool, false, ◌||◌, sym, arith}
+use Rattle.std.proofs.lemmas.Bool.Decides.{nat_tests}
 use Rattle.sections.specs.declared.Decoded.{Decoded}
 use Rattle.sections.specs.Plan.{Plan}
 use Rattle.sections.specs.Tables.{jobs_in}
@@ -28,32 +29,32 @@ module _ {p : Plan} {d : Decoded} {owner : List ℕ} {s c a : Faults} (t : Teste
   staying f = told (leaving_tested t) f
 
 pub returns-then-stray : goal.returns-then-stray
-returns-then-stray c p t = sym (ends_6 p (told (c.any_stray-stray.ensures ∙ stray_tested t) c.if-stray.true))
+returns-then-stray c p t = sym (ends_6 p (told (c.any_stray-stray.ensures ∙ stray_tested t) (grind (arith, nat_tests))))
 
 pub returns-then-standing : goal.returns-then-standing
 returns-then-standing c p t =
-    sym (ends_21 p (within t c.any_stray-stray.ensures c.if-stray.false) (told (c.all_stand-standing.ensures ∙ standing_tested t) c.if-standing.true))
+    sym (ends_21 p (within t c.any_stray-stray.ensures (grind (arith, nat_tests))) (told (c.all_stand-standing.ensures ∙ standing_tested t) (grind (arith, nat_tests))))
 
 pub returns-then-apart : goal.returns-then-apart
 returns-then-apart c p t =
-    let six = within t c.any_stray-stray.ensures c.if-stray.false in
-    let late = ending t c.all_stand-standing.ensures c.if-standing.false in
+    let six = within t c.any_stray-stray.ensures (grind (arith, nat_tests)) in
+    let late = ending t c.all_stand-standing.ensures (grind (arith, nat_tests)) in
     sym (ends_7 p six late (told (apart_tested t) c.if-apart.true))
 
 pub returns-then-leaving : goal.returns-then-leaving
 returns-then-leaving c p t =
-    let six = within t c.any_stray-stray.ensures c.if-stray.false in
-    let late = ending t c.all_stand-standing.ensures c.if-standing.false in
+    let six = within t c.any_stray-stray.ensures (grind (arith, nat_tests)) in
+    let late = ending t c.all_stand-standing.ensures (grind (arith, nat_tests)) in
     sym (ends_8 p six late (joined t c.if-apart.false) (told (leaving_tested t) c.if-leaving.true))
 
 pub returns-then-unknown : goal.returns-then-unknown
 returns-then-unknown c p t =
-    let six = within t c.any_stray-stray.ensures c.if-stray.false in
-    let late = ending t c.all_stand-standing.ensures c.if-standing.false in
+    let six = within t c.any_stray-stray.ensures (grind (arith, nat_tests)) in
+    let late = ending t c.all_stand-standing.ensures (grind (arith, nat_tests)) in
     sym (ends_9 p six late (joined t c.if-apart.false) (staying t c.if-leaving.false) (told (unknown_tested t) c.if-unknown.true))
 
 pub returns : goal.returns
 returns c p t =
-    let six = within t c.any_stray-stray.ensures c.if-stray.false in
-    let late = ending t c.all_stand-standing.ensures c.if-standing.false in
+    let six = within t c.any_stray-stray.ensures (grind (arith, nat_tests)) in
+    let late = ending t c.all_stand-standing.ensures (grind (arith, nat_tests)) in
     sym (ends_none p six late (joined t c.if-apart.false) (staying t c.if-leaving.false) (told (unknown_tested t) c.if-unknown.false))

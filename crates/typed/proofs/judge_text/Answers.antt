@@ -1,5 +1,6 @@
--- `judge_text` answers a refusal of the plan, one of the text, or what is left.
-use Rattle.std.proofs.Common.{ℕ, refl, sym, Result}
+-- `judge_text` answers a refusal of the plan, one of the text, or what is left. What the text's reader gave is found from what came of it, whatever stands
+-- between the two.
+use Rattle.std.proofs.Common.{◌≡◌, ℕ, refl, sym, Result, Ok, Err, arith}
 use mathlib.Core.Path.{subst}
 use Rattle.std.proofs.lemmas.Result.{err_from_is_err_and}
 use Rattle.arrayvec.specs.ArrayVec.{ArrayVec}
@@ -15,12 +16,13 @@ use Rattle.typed.proofs.Reader.{text_postfix, text_pattern}
 use Rattle.typed.proofs.judge_text.Goals as goal
 use Rattle.typed.proofs.judge_text.Goals.{In_ok-read}
 
--- what the text's reader told is told under the alphabet of the plan
-told : (c : In_ok-read) {r : Result (ArrayVec Item) Refusal} → Typed c.args.text.now c.in_ok-read.read.reading.plan.alphabet r
+-- what the text's reader told of its result is told of the same result under the alphabet of the plan
+told : (c : In_ok-read) {r s : Result (ArrayVec Item) Refusal} → Typed c.args.text.now c.in_ok-read.read.reading.plan.alphabet s → s ≡ r
     → Typed c.args.text.now (plan_of c.args.plan.now).alphabet r
-told c {r} t =
+told c {r} {s} t e =
     let read = c.in_ok-read.ensures in
-    subst (λ (a : ℕ). Typed c.args.text.now a r) (alphabet_read c.args.plan.now read.refusal read.plan) t
+    let u = subst (λ (x : Result (ArrayVec Item) Refusal). Typed c.args.text.now c.in_ok-read.read.reading.plan.alphabet x) e t in
+    subst (λ (a : ℕ). Typed c.args.text.now a r) (alphabet_read c.args.plan.now read.refusal read.plan) u
 
 pub returns-in_err-read : goal.returns-in_err-read
 returns-in_err-read c =
@@ -37,7 +39,8 @@ pub returns-in_err-items : goal.returns-in_err-items
 returns-in_err-items c =
     let p = err_from_is_err_and c.from_residual-in_err-items.result c.from_residual-in_err-items.ensures.1 in
     let b = c.args.plan.now in
-    let t = told (goal.at.returns-in_err-items c).In_ok-read c.in_err-items.ensures in
+    let refused : c.read_text.result ≡ Err c.in_err-items.field-0.0 = grind arith in
+    let t = told (goal.at.returns-in_err-items c).In_ok-read c.read_text.ensures refused in
     let q = typed c.args.text.now t.tree in
     rw (p.1, p.2)
     (record {
@@ -52,7 +55,8 @@ pub settle_plan-requires : goal.settle_plan-requires
 settle_plan-requires c =
     let read = c.in_ok-read.ensures in
     let b = c.args.plan.now in
-    let typed_items = text_postfix (told (goal.at.settle_plan-requires c).In_ok-read c.in_ok-items.ensures) in
+    let given : c.read_text.result ≡ Ok c.in_ok-items.items = grind arith in
+    let typed_items = text_postfix (told (goal.at.settle_plan-requires c).In_ok-read c.read_text.ensures given) in
     let own_items = own_postfix b read.refusal read.plan in
     ((_, plan_read b read.refusal read.plan _ _ read.words), search (typed_items, own_items))
 
@@ -60,7 +64,8 @@ pub returns : goal.returns
 returns c =
     let read = c.in_ok-read.ensures in
     let b = c.args.plan.now in
-    let t = told (goal.at.returns c).In_ok-read c.in_ok-items.ensures in
+    let given : c.read_text.result ≡ Ok c.in_ok-items.items = grind arith in
+    let t = told (goal.at.returns c).In_ok-read c.read_text.ensures given in
     record {
       tree = t.tree;
       reading = t.reading;
