@@ -34,8 +34,10 @@ pub fn read_pattern(plan: &[u8], words: &mut [u32; 512]) -> Result<PatternRead, 
     ensures plan { IfOk result (λ read. read ≡ accepted plan.now) }
     ensures words { WordsOf plan.now words.old words.new }
 {
-    plan::framed(plan)?;
-    read_framed(plan, words)
+    let reading = reader::read_plan(plan, words)?;
+    let at = reading.pattern;
+    let items = items::read_items(&plan[at..], reading.plan.alphabet, reading.plan.items)?;
+    Ok(PatternRead { reading, items })
 }
 
 // The same of a plan that passed refusals 1 to 4: the first refusal of 5 to 15 and 21 that applies, and its arcs go into the words whatever comes.
@@ -46,8 +48,8 @@ pub fn read_framed(plan: &[u8], words: &mut [u32; 512]) -> Result<PatternRead, R
     ensures words { Worded (plan_of plan.now) words.old words.new }
 {
     let reading = reader::read_sections(plan, words)?;
-    let at = reading.pattern;
-    let items = items::read_items(&plan[at..], reading.plan.alphabet, reading.plan.items)?;
+    let start = reading.pattern;
+    let items = items::read_items(&plan[start..], reading.plan.alphabet, reading.plan.items)?;
     Ok(PatternRead { reading, items })
 }
 
