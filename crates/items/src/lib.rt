@@ -1,12 +1,13 @@
 // The reader of the items of a pattern: the refusals 10 to 15, or the items.
 #![tactic(auto)]
 
-ghost use Rattle.std.specs.Prelude.{◌≡◌, ℕ, ◌≤◌, IfOk};
-ghost use Rattle.rows.specs.Rows.{row, place};
+ghost use Rattle.std.specs.Prelude.{◌≡◌, List, ◌≤◌, ◌<◌, IfOk, length, get_or};
+ghost use Rattle.expressions.specs.declared.Item.{Item};
+ghost use Rattle.expressions.specs.declared.Item.TheVariants.{Empty as empty};
 ghost use Rattle.refusals.specs.Numbers.{refusal_of};
 ghost use Rattle.item.specs.Faults.{item_of};
 ghost use Rattle.items.specs.Refusals.{read, items_in, items_refusal};
-ghost use Rattle.items.specs.Tables.{Scanned};
+ghost use Rattle.items.specs.Tables.{items_on, Scanned};
 
 use arrayvec::ArrayVec;
 use expressions::Item;
@@ -75,14 +76,48 @@ fn item_of(kind: u8, set: u32) -> Item
     }
 }
 
-// The items that two arrays list as C has them, a kind and a set for each. What stands behind the last of them is not read.
-pub fn listed(count: usize, kinds: &[u8; 64], sets: &[u32; 64]) -> Items
-    requires { count ≤ 64 }
-    ensures { result.items ≡ row count (λ (i : ℕ). item_of (place kinds.now i) (place sets.now i)) }
-{
-    let mut items = Items::new();
-    for i in 0..count {
-        items.push(item_of(kinds[i], sets[i]));
+// What has the items of a pattern one behind the other: a list of them, or two arrays as C has them.
+pub trait ItemList {
+    ghost list: { Self → List Item };
+
+    // How many they are.
+    fn count(&self) -> usize
+        ensures { result ≡ length (list self.now) };
+
+    // The item `i`.
+    fn item(&self, i: usize) -> Item
+        requires { (i < length (list self.now)) × (i < 64) }
+        ensures { result ≡ get_or (list self.now) i empty };
+}
+
+impl ItemList for Items {
+    ghost list = { λ l. l.items };
+
+    fn count(&self) -> usize {
+        self.len()
     }
-    items
+
+    fn item(&self, i: usize) -> Item {
+        self[i]
+    }
+}
+
+// Two arrays as C has them, with a kind and a set for each of so many items. What stands behind the last of them is not read.
+#[derive(Clone, Copy)]
+pub struct Arrays<'a> {
+    pub count: usize,
+    pub kinds: &'a [u8; 64],
+    pub sets: &'a [u32; 64],
+}
+
+impl<'a> ItemList for Arrays<'a> {
+    ghost list = { λ l. items_on l.count l.kinds.now l.sets.now };
+
+    fn count(&self) -> usize {
+        self.count
+    }
+
+    fn item(&self, i: usize) -> Item {
+        item_of(self.kinds[i], self.sets[i])
+    }
 }

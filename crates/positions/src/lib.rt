@@ -10,7 +10,7 @@ ghost use Rattle.positions.specs.Tables.{position_table};
 ghost use Rattle.positions.specs.Making.{nothing, made, gains};
 
 use expressions::Item;
-use items::Items;
+use items::ItemList;
 
 // The positions of a pattern: 0 is the beginning.
 #[derive(Drop)]
@@ -159,19 +159,20 @@ fn take_item(item: Item, at: u64, older: Operand, newer: Operand) -> Made
 // The positions of the pattern that the items build. The operands stand in an array, the newest at the place `depth - 1`; an
 // item's own takes the place of the oldest that it takes. They are never more than 32, since the items that are left make one of them. It is no
 // list that grows, since an item that takes no operand reads places past the newest. At last what begins the one operand left follows the beginning.
-pub fn positions_of(items: &Items) -> Positions
-    requires { Postfix items.now.items }
-    ensures { result ≡ position_table (pattern_of items.now.items) }
+pub fn positions_of<L: ItemList>(items: &L) -> Positions
+    requires { Postfix (L.list items.now) }
+    ensures { result ≡ position_table (pattern_of (L.list items.now)) }
 {
     let mut operands = [Operand::default(); 34];
     let mut depth: usize = 0;
     let mut count: usize = 1;
     let mut after = [0u64; 33];
     let mut holding = [0u64; 33];
-    for item in items.iter() {
+    for i in 0..items.count() {
+        let item = items.item(i);
         let base = depth - item.arity();
         let at = masks::with_state(0, count as u32);
-        let made = take_item(*item, at, operands[base], operands[base + 1]);
+        let made = take_item(item, at, operands[base], operands[base + 1]);
         operands[base] = Operand {
             null: made.null,
             first: made.first,

@@ -22,6 +22,7 @@ use Rattle.expressions.specs.Items.{arity, operands}
 use Rattle.item.specs.Faults.{item_of}
 use Rattle.item.specs.Found.{kind_of, set_of}
 use Rattle.items.specs.Postfix.{Postfix}
+use Rattle.items.specs.Tables.{items_on}
 use Rattle.words.specs.Words.{unpacked, arcs_on, arc_on}
 use Rattle.words.proofs.Words.{unpack_word}
 use Rattle.readback.specs.Tables.{kind_number, word, word_at, kinds_of, sets_of, Tables, tables_of}
@@ -42,7 +43,7 @@ plan_told t = record {
 }
 
 abbrev pub items_told : Tables → (count : ℕ) → List Item
-items_told t count = row count (λ i. item_of (place t.kinds i) (place t.sets i))
+items_told t count = items_on count t.kinds t.sets
 
 kind_back : (k : Kind) → plan.kind_of (kind_number k) ≡ k
 kind_back Every = refl
@@ -107,14 +108,14 @@ item_back sequence = refl
 item_back choice = refl
 item_back repeat = refl
 
--- items that are listed in two arrays, and taken back as `items::listed` takes them, are the same
-pub listed_back : (l : List Item) → row (length l) (λ i. item_of (place (padded 64 (kinds_of l)) i) (place (padded 64 (sets_of l)) i)) ≡ l
+-- items that are listed in two arrays, and taken back as `items::Arrays` has them, are the same
+pub listed_back : (l : List Item) → items_on (length l) (padded 64 (kinds_of l)) (padded 64 (sets_of l)) ≡ l
 listed_back l =
     row_ext _ (λ i. get_or l i empty) (length l)
     (λ i h. ap₂ item_of (column_at 64 kind_of empty refl l i) (column_at 64 set_of empty refl l i) ∙ item_back (get_or l i empty))
     ∙ row_places empty l
 
--- and what `items::listed` takes is in postfix form where the arrays say so place by place
+-- and what `items::Arrays` has is in postfix form where the arrays say so place by place
 pub listed_postfix : (item : ℕ → Item) (count : ℕ) → count ≤ 64 → ((i : ℕ) → i < count → arity (item i) ≤ length (operands (row i item)))
     → length (operands (row count item)) ≡ 1 → Postfix (row count item)
 listed_postfix item count few enough one = record {
