@@ -1,4 +1,4 @@
-// The reader of the items of a pattern: the refusals 10 to 15, or the items.
+// The reader of the items of a pattern: the refusals 10 to 15, or the items; and what lists items, a list of them or two arrays.
 #![tactic(auto)]
 
 ghost use Rattle.std.specs.Prelude.{◌≡◌, List, ◌≤◌, ◌<◌, IfOk, length, get_or};
